@@ -1,4 +1,4 @@
--- Copies of what stands at top level.
+-- Copies of what is at top level.
 use Rattle.std.proofs.Common.{◌≡◌, ℕ, List, Option, Some, sym, ap, ◌∙◌, subst}
 use Rattle.std.specs.Prelude.{slice_get, unwrap_or}
 use Rattle.nesl_values.specs.View.{tree_of}
@@ -7,7 +7,7 @@ use Rattle.nesl_eval_meaning.specs.Names.{Value}
 use Rattle.nesl_eval_code.specs.Run.{Table, variable_slot, nothing_slot, slot_at}
 use Rattle.nesl_eval.specs.Copied.{AreCopies, slot_value}
 
--- where a variable stands, its copy stands for it
+-- where there is a variable, its copy has its value
 pub copy_stands : {A : Type 0} (t : Table) (vs : List (Option (code.Value A))) (k : ℕ) (v : code.Value A) (w : Value) → AreCopies t vs → slice_get vs k ≡ Some (Some v) → variable_slot w ≡ unwrap_or (slot_at t k) nothing_slot
     → variable_slot (tree_of v) ≡ unwrap_or (slot_at t k) nothing_slot
 copy_stands t vs k v w copies there stands =

@@ -1,4 +1,4 @@
--- An evaluation of code that stands for an expression.
+-- An evaluation of code that means an expression.
 use Rattle.std.proofs.Common.{◌≡◌, ℕ, List, [], true, nat_le, sym, subst, arith}
 use Rattle.std.specs.Prelude.{if◌then◌else◌}
 use Rattle.std.proofs.lemmas.Bool.Decides.{nat_tests}
@@ -23,7 +23,7 @@ tells_stuck (Fault k s w) b = rw (none_within b) tt
 tells_stuck Over b = rw (none_within b) tt
 tells_stuck Memory b = tt
 
--- what tells of a run tells of what it agrees with
+-- an outcome that is a run's is that of what the run agrees with
 as_meant : {A : Type 0} (r : Outcome A) (b : ℕ) (p o : Out Value) → ((o ≡ stuck → ⊥) → p ≡ o) → OutcomeIs r (within b p) → OutcomeIs r (within b o)
 as_meant r b p stuck f h = tells_stuck r b
 as_meant r b p (value x w d) f h = subst (λ q. OutcomeIs r (within b q)) (f (λ e. cc)) h

@@ -90,7 +90,7 @@ or_second : (a b : Bool) → b ≡ true → (a || b) ≡ true
 or_second true b e = refl
 or_second false b e = e
 
--- a place that is marked, and stands last in the queue
+-- a place that is marked, and is last in the queue
 pub queued_more : (marks : List Bool) (queue : List ℕ) (place : ℕ) → AreQueued marks queue → AreQueued (set marks place true) (queue ++ place ∷ [])
 queued_more marks queue place q k m =
     let both = list_any-append (λ (p : ℕ). p == k) queue (place ∷ []) in
@@ -116,7 +116,7 @@ grows_more marks queue place = record {
   added = (place ∷ [], refl);
 }
 
--- no more stand in the queue than there are places
+-- no more are in the queue than there are places
 pub few_queued : (marks : List Bool) (queue : List ℕ) → length queue ≡ count_of marks → length queue ≤ length marks
 few_queued marks queue e = let most : sum_by one marks ≤ length marks * 1 = sum_by-le one 1 marks (λ k d h. at_most (get_or marks k d)) in omega (arith, most, e)
   where
@@ -124,7 +124,7 @@ few_queued marks queue e = let most : sum_by one marks ≤ length marks * 1 = su
     at_most true = omega arith
     at_most false = omega arith
 
--- where a place stands in the queue
+-- where a place is in the queue
 equal : (a b : ℕ) → (a == b) ≡ true → a ≡ b
 equal a b e = eqb-true a b e
 
@@ -203,13 +203,13 @@ none_queued n marks queue e f k m = absurd (none_at n k (subst (λ x. IsMarked x
 pub none_once : (n : ℕ) (marks : List Bool) (queue : List ℕ) → marks ≡ replicate n false → queue ≡ [] → length queue ≡ count_of marks
 none_once n marks queue e f = ap length f ∙ sym (ap count_of e ∙ none_count n)
 
--- what stands in front of what is added
+-- what is before what is added
 front_read : (queue more : List ℕ) (i : ℕ) → i < length queue → slice_get (queue ++ more) i ≡ slice_get queue i
 front_read [] more i h = absurd (omega (arith, h))
 front_read (p ∷ queue) more zero h = refl
 front_read (p ∷ queue) more (suc i) h = front_read queue more i (omega arith)
 
--- the bodies of the functions that stand in the queue, with one more that was gone into
+-- the bodies of the functions that are in the queue, with one more that was gone into
 module _ (t : Table) (old new : List Bool) (q r : List ℕ) (next place : ℕ) where
   pub bodies_more :
       next < length q → place ≡ get_or q next place → Grows old new q r
@@ -227,7 +227,7 @@ module _ (t : Table) (old new : List Bool) (q r : List ℕ) (next place : ℕ) w
             into body (ap (slot_at t) at ∙ stands)
       ]
 
--- once all that stand in the queue were gone into
+-- once all that are in the queue were gone into
 pub all_reached : (t : Table) (c : Code) (marks : List Bool) (queue : List ℕ) (next places : ℕ) → places ≡ length t → length marks ≡ length t → length queue ≤ next → AreQueued marks queue → Marks t marks c
     → ((i j : ℕ) (body : Code) → i < next → slice_get queue i ≡ Some j → slot_at t j ≡ Some (function_slot body) → Marks t marks body)
     → (k : ℕ) → Reaches t c k → k < places → IsMarked marks k

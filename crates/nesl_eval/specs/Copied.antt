@@ -8,7 +8,7 @@ use Rattle.nesl_values.specs.declared.value.Value as code
 use Rattle.nesl_eval_meaning.specs.Names.{Value}
 use Rattle.nesl_eval_code.specs.Run.{Table, Slot, variable_slot, nothing_slot, slot_at}
 
--- the value of the variable at a place, or 0 where none stands
+-- the value of the variable at a place, or 0 where there is none
 abbrev pub slot_value : Slot → Value
 slot_value (variable_slot v) = v
 slot_value _ = values.int (pos 0)
@@ -16,7 +16,7 @@ slot_value _ = values.int (pos 0)
 abbrev pub tree_at : Table → ℕ → Value
 tree_at t k = slot_value (unwrap_or (slot_at t k) nothing_slot)
 
--- each copy is of the variable that stands at its place
+-- each copy is of the variable at its place
 abbrev pub AreCopies : {A : Type 0} → Table → List (Option (code.Value A)) → Type 0
 AreCopies {A = A} t vs = (k : ℕ) (v : code.Value A) → slice_get vs k ≡ Some (Some v) → tree_of v ≡ tree_at t k
 

@@ -1,4 +1,4 @@
--- What the answer of an evaluation tells.
+-- When the result of an evaluation is right.
 use Rattle.std.specs.Prelude.{◌≡◌}
 use Rattle.nesl_values.specs.View.{tree_of}
 use Rattle.nesl_eval_meaning.specs.Names.{Value}
@@ -6,7 +6,7 @@ use Rattle.nesl_eval_meaning.specs.Out.{Out, value, fault, stuck, Budgeted, fits
 use Rattle.nesl_eval.specs.declared.outcome.Outcome.{Outcome}
 use Rattle.nesl_eval.specs.declared.outcome.Outcome.TheVariants.{Done, Fault, Over, Memory}
 
--- the answer is the outcome under the budget; nothing is said where the outcome is stuck, or memory was wanting
+-- the result is the outcome under the budget; nothing is said where the outcome is stuck, or memory ran out
 abbrev pub OutcomeIs : {A : Type 0} → Outcome A → Budgeted Value → Type 0
 OutcomeIs Memory b = Unit {0}
 OutcomeIs r (fits_budget stuck) = Unit {0}

@@ -54,11 +54,11 @@ Marks t marks c = (k : ℕ) → Refers t c k → k < length marks → IsMarked m
 abbrev pub count_of : List Bool → ℕ
 count_of marks = sum_by (λ m. cond m 1 0) marks
 
--- each marked place stands in the queue
+-- each marked place is in the queue
 abbrev pub AreQueued : List Bool → List ℕ → Type 0
 AreQueued marks queue = (k : ℕ) → IsMarked marks k → list_any (λ place. place == k) queue ≡ true
 
--- marks are added, and places behind the queue
+-- marks are added, and places after the queue
 pub record Grows (old new : List Bool) (queue longer : List ℕ) : Type 0 where
   pub places : length new ≡ length old
   pub kept : (k : ℕ) → IsMarked old k → IsMarked new k

@@ -82,7 +82,7 @@ fn copies_for<'e, A: Allocator + Copy>(
     Ok(Copies { tops, values })
 }
 
-// The copies of the variables that are wanted.
+// The copies of the variables that are reached.
 fn copied<A: Allocator + Copy>(
     alloc: Global,
     tops: &TopLevel<'_>,
@@ -113,7 +113,7 @@ fn push_copy<A: Allocator + Copy>(
     Ok(())
 }
 
-// The copy of a variable's value, if it is wanted and there is room.
+// The copy of a variable's value, if it is reached and there is room.
 fn copy_at<A: Allocator + Copy>(
     tops: &TopLevel<'_>,
     place: usize,
@@ -134,7 +134,7 @@ fn copy_at<A: Allocator + Copy>(
     }
 }
 
-/// What `eval_one` comes to, in a heap of its own: of the values of the bindings, those that the expression's code can
+/// What `eval_one` returns, in a heap of its own: of the values of the bindings, those that the expression's code can
 /// reach are copied there, each once.
 pub fn eval_one_in<A: Allocator + Copy>(
     alloc: Global,

@@ -1,4 +1,4 @@
-//! Evaluation: what an expression comes to, under a budget.
+//! Evaluation: what an expression evaluates to, under a budget.
 #![tactic(auto)]
 
 mod copies;

@@ -14,7 +14,7 @@ use nesl_eval_top_level::{Env, prepare};
 use nesl_syntax_tree::tree::Exp;
 use std::alloc::Global;
 
-/// What an expression comes to where these bindings stand, with so many levels and so much work.
+/// What an expression evaluates to under these bindings, with these levels and this fuel.
 pub fn eval_one(alloc: Global, env: &Env, exp: &Exp, levels: u32, fuel: u64) -> Outcome<Global>
     ensures { OutcomeIs result
         (within fuel (out levels (environment env.now) (outside []) (tree_of exp.now))) }

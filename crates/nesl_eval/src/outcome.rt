@@ -1,4 +1,4 @@
-//! What an evaluation under a budget tells.
+//! What an evaluation under a budget returns.
 ghost use Rattle.std.specs.Prelude.{◌≡◌, []};
 ghost use Rattle.nesl_values.specs.Tree.{ValueTree};
 ghost use Rattle.nesl_eval_meaning.specs.Out.{Out, within};
@@ -18,7 +18,7 @@ use nesl_scalars::Trap;
 use nesl_values::Value;
 use std::alloc::Allocator;
 
-/// What an evaluation came to.
+/// How an evaluation ended.
 #[derive(Drop)]
 pub enum Outcome<A: Allocator> {
     Done {
@@ -34,11 +34,11 @@ pub enum Outcome<A: Allocator> {
     },
     /// The whole work is more than the budget.
     Over,
-    /// There was no room. This also stands for an expression that has no type.
+    /// There was no room. This is also the outcome of an expression that has no type.
     Memory,
 }
 
-/// What code comes to with so many levels and so much work, held by `heap`, where these are its operations and those
+/// What code evaluates to with these levels and this fuel, held by `heap`, where these are its operations and those
 /// of the bodies of functions.
 pub fn evaluate<A: Allocator + Copy, T: Tops<A>>(
     tops: &T,
@@ -55,7 +55,7 @@ pub fn evaluate<A: Allocator + Copy, T: Tops<A>>(
     outcome_of(found, fuel, meter)
 }
 
-/// What a run tells that began with so much fuel and ended with this meter.
+/// The outcome of a run that began with this fuel and ended with this meter.
 pub fn outcome_of<A: Allocator>(
     found: Result<Value<A>, Stop>,
     fuel: u64,
@@ -64,12 +64,12 @@ pub fn outcome_of<A: Allocator>(
     ensures { (o : Out ValueTree) → Meets Is (record { fuel = fuel; depth = 0 }) found meter o
         → OutcomeIs result (within fuel o) }
 {
-    let work = fuel.saturating_sub(meter.fuel);
+    let work = fuel.saturating_sub(meter.fuel());
     match found {
         Ok(value) => Outcome::Done {
             value,
             work,
-            depth: meter.depth,
+            depth: meter.depth(),
         },
         Err(Stop::Fault(trap, span)) => Outcome::Fault { trap, span, work },
         Err(Stop::Over) => Outcome::Over,

@@ -20,7 +20,7 @@ struct Reached {
     ghost once: { length queue.items ≡ count_of marks.items },
 }
 
-/// Whether code reaches each place, of which there are so many: it refers to it, or a function that it reaches does.
+/// Whether code reaches each of the `places` places: it refers to it, or a function that it reaches does.
 /// Other places may be marked too.
 pub(crate) fn places_reached(
     alloc: Global,
@@ -44,7 +44,7 @@ pub(crate) fn places_reached(
 }
 
 impl Reached {
-    // None of so many places was met.
+    // None of `places` places was met.
     fn new(alloc: Global, places: usize) -> Result<Reached, AllocError>
         ensures { IfOk result (λ r. length r.marks.items ≡ places) }
     {

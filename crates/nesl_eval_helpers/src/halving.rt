@@ -1,5 +1,5 @@
 //! Evaluates an interval of places in two halves, and joins their results.
-ghost use Rattle.std.specs.Prelude.{◌≡◌, ℕ, ◌+◌, ◌-◌, ◌<◌, ◌≤◌, ◌^◌, List, max};
+ghost use Rattle.std.specs.Prelude.{◌≡◌, ℕ, ◌+◌, ◌-◌, ◌≤◌, List, max};
 ghost use Rattle.nesl_values.specs.Tree.{ValueTree};
 ghost use Rattle.nesl_eval_meaning.specs.Out.{Out, beside};
 ghost use Rattle.nesl_eval_nodes.specs.Meets.{Meets};
@@ -23,7 +23,7 @@ pub fn begin_meter(fuel: u64) -> Meter
     ensures fuel { result.fuel ≡ fuel }
     ensures depth { result.depth ≡ 0 }
 {
-    Meter { fuel, depth: 0 }
+    Meter::new(fuel)
 }
 
 /// Returns the work and the depth between two readings of a meter.
@@ -32,8 +32,8 @@ pub fn cost_since(begun: Meter, meter: Meter) -> Cost
     ensures depth { result.depth ≡ meter.depth - begun.depth }
 {
     Cost {
-        work: begun.fuel.saturating_sub(meter.fuel),
-        depth: meter.depth.saturating_sub(begun.depth),
+        work: begun.fuel().saturating_sub(meter.fuel()),
+        depth: meter.depth().saturating_sub(begun.depth()),
     }
 }
 
@@ -44,7 +44,6 @@ pub fn join_places(
     right: Half<Vec<usize>>,
     meter: &mut Meter,
 ) -> Result<Vec<usize>, Stop>
-    requires room { meter.old.fuel + meter.old.depth < 2 ^ 64 }
     requires left { IsWithin meter.old left.cost }
     requires right { IsWithin meter.old right.cost }
     ensures meets { (o p : Out (List ℕ))
@@ -53,13 +52,13 @@ pub fn join_places(
         → Meets (λ ks is. ks.items ≡ is) meter.old result meter.new (beside o p) }
     ensures spent { meter.new.fuel + meter.new.depth ≤ meter.old.fuel + meter.old.depth }
 {
-    let depth = deeper(left.cost, right.cost);
+    let depth = meter.depth() + deeper(left.cost, right.cost);
     meter.charge(left.cost.work)?;
     let mut places = left.found?;
     let more = judge(right, meter)?;
     match places.extend_from_slice(more.as_slice()) {
         Ok(()) => {
-            meter.depth += depth;
+            meter.set_depth(depth);
             Ok(places)
         }
         Err(_) => Err(Stop::Memory),
@@ -72,7 +71,6 @@ pub fn join_values(
     right: Half<SequenceBuilder>,
     meter: &mut Meter,
 ) -> Result<SequenceBuilder, Stop>
-    requires room { meter.old.fuel + meter.old.depth < 2 ^ 64 }
     requires left { IsWithin meter.old left.cost }
     requires right { IsWithin meter.old right.cost }
     ensures meets { (o p : Out (List ValueTree))
@@ -81,13 +79,13 @@ pub fn join_values(
         → Meets Has meter.old result meter.new (beside o p) }
     ensures spent { meter.new.fuel + meter.new.depth ≤ meter.old.fuel + meter.old.depth }
 {
-    let depth = deeper(left.cost, right.cost);
+    let depth = meter.depth() + deeper(left.cost, right.cost);
     meter.charge(left.cost.work)?;
     let mut values = left.found?;
     let more = judge(right, meter)?;
     match values.append(more) {
         Ok(()) => {
-            meter.depth += depth;
+            meter.set_depth(depth);
             Ok(values)
         }
         Err(_) => Err(Stop::Memory),

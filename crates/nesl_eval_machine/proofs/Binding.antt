@@ -63,7 +63,7 @@ cut_long (suc j) zero xs h i = absurd (omega arith)
 cut_long (suc j) (suc k) [] h i = absurd (omega arith)
 cut_long (suc j) (suc k) (x ∷ xs) h i = let e = cut_long j k xs (omega arith) (omega arith) in omega arith
 
--- the first so many are left, over any values
+-- the first `k` local names are left, over any values
 pub forgotten_under : {A : Type 0} (t : Table) (m : Machine A) (slots : Vec (code.Value A) A) (len k : ℕ) (b : Block) (vs : List Value) →
     slots.items ≡ take len m.slots.items → len ≡ m.base + k → slots_below (frames_of m) ≤ len → Fits t m →
     let n : Machine A = record m { slots = slots } in

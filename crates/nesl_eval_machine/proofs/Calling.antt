@@ -18,7 +18,7 @@ use Rattle.nesl_eval_rounds.proofs.Laws.{then_after, at_call_after}
 use Rattle.nesl_eval_rounds.proofs.Rows.{places_more}
 use Rattle.nesl_eval_machine.proofs.Entering.{places_long}
 
--- what is held is a function where one stands
+-- what is held is a function where there is one
 pub function_there : (o : Option Slot) (c : Code) → function_slot c ≡ unwrap_or o nothing_slot → o ≡ Some (function_slot c)
 function_there None c e = absurd (cc e)
 function_there (Some s) c e = ap Some (sym e)

@@ -28,7 +28,7 @@ env_there k xs ds e = ap places_of (rest_of k ds ∙ ap (drop k) e) ∙ sym (dro
     rest_of : {X : Type 0} (k : ℕ) (xs : List X) → take (length xs - k) (drop k xs) ≡ drop k xs
     rest_of k xs = grind (arith, common_steps)
 
--- what a machine comes to whose round is between two turns
+-- what a machine evaluates to whose round is between two turns
 abbrev pub at_rest : {A : Type 0} → Table → Machine A → Block → Round A → Out Value
 at_rest t m b r = unwound t (frames_of m) (slots_of m) (stack_of m) (between t m.levels b (env_of m) (local_of m) r)
 

@@ -17,7 +17,7 @@ use Rattle.nesl_eval_machine.proofs.Entering.{places_cut}
 pub value_is : {v : Value} {w w' d d' : ℕ} → w ≡ w' → d ≡ d' → value v w d ≡ value v w' d'
 value_is p q = cc
 
--- a block that ended with the value at hand, which nothing stands before, and these slots are left
+-- a block that ended with the value at hand, which nothing is before, and these slots are left
 pub record Ended {A : Type 0} (t : Table) (m : Machine A) (f : Frame A) (sl : List (code.Value A)) (v : code.Value A) (o : Out Value) : Type 0 where
   pub left : o ≡ unwound t (frames_of m) (places_of sl) (stack_of m)
       (resumed t f (drop f.base (places_of sl)) (above (floor (frames_of m)) (stack_of m)) (value (tree_of v) 0 m.meter.depth))

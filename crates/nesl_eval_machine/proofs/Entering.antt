@@ -24,7 +24,7 @@ places_long xs = length-map (map tree_of xs) Some ∙ length-map xs tree_of
 pub places_cut : {A : Type 0} (k : ℕ) (xs : List (code.Value A)) → take k (places_of xs) ≡ places_of (take k xs)
 places_cut k xs = take-map Some k (map tree_of xs) ∙ ap (map Some) (take-map tree_of k xs)
 
--- a frame waits for what its block comes to
+-- a frame waits for what its block evaluates to
 waiting : {A : Type 0} (t : Table) (fs : List (Frame A)) (f : Frame A) (sl sl' : Places) (st : List Value) (o : Out Value) → take f.len sl' ≡ sl → take f.height st ≡ st →
     unwound t (f ∷ fs) sl' st o ≡ unwound t fs sl st (resumed t f (drop f.base sl) (above (floor fs) st) o)
 waiting t fs f sl sl' st o p q =

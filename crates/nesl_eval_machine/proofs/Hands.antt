@@ -145,7 +145,7 @@ pub step_moves : {A U : Type 0} (t : Table) (m m1 n : Machine A) (c : Block) (u 
 step_moves t m m1 n c u r o (inl e) next = moves_stuck t m n r o e
 step_moves t m m1 n c u r o (inr g) next = moves_from t m n r o _ g.same (moves_after t m m1 n r g.work (left_at t m1 c) g.spent (next g.fits))
 
--- so many values are taken off the stack, or there are fewer
+-- `k` values are taken off the stack, or there are fewer
 pub many_moves : {A : Type 0} (t : Table) (m n : Machine A) (s : Vec (code.Value A) A) (xs : List (code.Value A)) (r : Result (Hand A) Stop) (k : ℕ) (f : List Value × List Value → Out Value) →
     m.stack.items ≡ s.items ++ xs → length xs ≡ k → Fits t m →
     (Fits t (record m { stack = s }) → Moves t (record m { stack = s }) r n (left_with t (record m { stack = s }) (f (map tree_of xs, local_of (record m { stack = s }))))) →

@@ -48,7 +48,7 @@ leaf_then t m n c r h s f k l ls b next =
       | inr e ↦ steps_from t m n c r _ _ (ap (left_with t m) e) next
     ]
 
--- one more leaf, of which so many have been pushed
+-- one more leaf, after those that have been pushed
 pub leaf_next : {A U : Type 0} (t : Table) (m m1 n : Machine A) (u : Result U Stop) (h : ℕ) (s : Span) (f : Maker) (k i : ℕ) (l : Leaf) (ls rest : List Leaf) (b : Block) (o : Out Value) →
     ls ≡ l ∷ rest → Steps t m (Ok (tt {0})) m1 (make h s f (k + i) ls b) o →
     ((c : Block) → Fits t m1 → Steps t m1 u n c (left_at t m1 (push h l c))) →

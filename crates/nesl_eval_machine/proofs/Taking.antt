@@ -49,7 +49,7 @@ few_taken t m n b r k f h =
     let less = above_all (floor (frames_of m)) (stack_of m) in
     stuck_steps t m n b r _ (ap (λ o. given o f) (few k (local_of m) [] (omega arith)))
 
--- what is left where so many values are taken, or some of them were not of the block
+-- what is left where `k` values are taken, or some of them were not of the block
 pub many_off : {A : Type 0} (t : Table) (m : Machine A) (s : Vec (code.Value A) A) (xs : List (code.Value A)) (k : ℕ) (f : List Value × List Value → Out Value) →
     m.stack.items ≡ s.items ++ xs → length xs ≡ k → Fits t m →
     let m1 : Machine A = record m { stack = s } in

@@ -29,7 +29,7 @@ abbrev pub floor : {A : Type 0} → List (Frame A) → ℕ
 floor [] = 0
 floor (f ∷ fs) = f.height
 
--- what comes of a block's outcome, by its purpose
+-- what a block's outcome becomes, by its purpose
 abbrev pub resumed_as : {A : Type 0} → Table → ℕ → Block → Purpose A → Places → List Value → Out Value → Out Value
 resumed_as t n b Push env st o = and_then o (λ v. exec t n env b (v ∷ st))
 resumed_as t n b (Return s) env st o = and_then (at_call s o) (λ v. exec t n env b (v ∷ st))
@@ -38,7 +38,7 @@ resumed_as t n b (Turn r) env st o = in_turn t n b env st r.value o
 abbrev pub resumed : {A : Type 0} → Table → Frame A → Places → List Value → Out Value → Out Value
 resumed t f = resumed_as t f.levels (block_of f.next.now) f.purpose
 
--- what the frames, the innermost first, make of it, with these slots and this stack
+-- what the frames, the innermost first, make of an outcome, with these slots and this stack
 abbrev pub unwound : {A : Type 0} → Table → List (Frame A) → Places → List Value → Out Value → Out Value
 unwound t [] sl st o = o
 unwound t (f ∷ fs) sl st o =
@@ -66,7 +66,8 @@ env_of m = drop m.base (slots_of m)
 abbrev pub local_of : {A : Type 0} → Machine A → List Value
 local_of m = above (floor (frames_of m)) (stack_of m)
 
--- what comes of an outcome of the innermost block, after the depth so far, and of a block in the place of what is next
+-- what an outcome of the innermost block becomes after the depth so far; and what a block in the place of the next one
+-- becomes
 abbrev pub left_with : {A : Type 0} → Table → Machine A → Out Value → Out Value
 left_with t m o = unwound t (frames_of m) (slots_of m) (stack_of m) (after_cost 0 m.meter.depth o)
 
@@ -77,7 +78,7 @@ left_at t m b = left_with t m (exec t m.levels (env_of m) b (local_of m))
 abbrev pub left : {A : Type 0} → Table → Machine A → Out Value
 left t m = left_at t m (block_of m.code.now)
 
--- what is left with what is at hand: a value stands before those on the stack; the last one is the outcome
+-- what is left with what is at hand: a value comes before those on the stack; the last one is the outcome
 abbrev pub left_at_hand : {A : Type 0} → Table → Machine A → Hand A → Out Value
 left_at_hand t m Empty = left t m
 left_at_hand t m (Holds v next) =

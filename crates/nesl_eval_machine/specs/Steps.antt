@@ -24,11 +24,11 @@ use Rattle.nesl_eval_rounds.specs.Leads.{Leads, Took}
 use Rattle.nesl_eval_machine.specs.State.{unwound, frames_of, slots_of, stack_of, env_of, local_of, left_at}
 use Rattle.nesl_eval_machine.specs.State.{Fits, left_at_hand}
 
--- the outcome is what is left for a machine at a block, after what was done for it
+-- the outcome is what is left for a machine at a block, once this was done for it
 abbrev pub Goes : {A : Type 0} → Table → ℕ → Machine A → Block → Out Value → Type 0
 Goes t fuel n b o = Leads fuel n.meter.fuel o (left_at t n b) (Fits t n)
 
--- a fault is told with the span of the outermost call
+-- a fault has the span of the outermost call
 abbrev pub placed_once : {A : Type 0} → Purpose A → Span → Span
 placed_once Push s = s
 placed_once (Return s') s = s'
@@ -38,8 +38,8 @@ abbrev pub placed : {A : Type 0} → List (Frame A) → Span → Span
 placed [] s = s
 placed (f ∷ fs) s = placed fs (placed_once f.purpose s)
 
--- why a machine stopped that had so much fuel and has so much left; nothing is said where the outcome is stuck, or
--- memory was wanting
+-- why a machine stopped, with its fuel before and after; nothing is said where the outcome is stuck, or
+-- memory ran out
 abbrev pub Stops : {A : Type 0} → List (Frame A) → ℕ → Stop → ℕ → Out Value → Type 0
 Stops fs f e f' stuck = Unit {0}
 Stops fs f (Fault k s) f' (value x w d) = ⊥
@@ -55,7 +55,7 @@ abbrev pub Steps : {A U : Type 0} → Table → Machine A → Result U Stop → 
 Steps t m (Ok u) n b o = (o ≡ stuck) ⊎ Goes t m.meter.fuel n b o
 Steps t m (Err e) n b o = Stops (frames_of n) m.meter.fuel e n.meter.fuel o
 
--- so many values were taken off a stack, or there are fewer
+-- this number of values was taken off a stack, or there are fewer
 abbrev pub TakesOff :
     {A : Type 0} → List (code.Value A) → List (code.Value A) → ℕ → Result (Option (Vec (code.Value A) A)) Stop
     → Type 0

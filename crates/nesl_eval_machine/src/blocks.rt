@@ -123,7 +123,7 @@ impl<'a, A: Allocator + Copy> Machine<'a, A> {
         }
     }
 
-    /// Only the first so many local names are left. They are never fewer than the frames have.
+    /// Only the first `places` local names are left. They are never fewer than the frames have.
     #[inline(always)]
     pub(crate) fn forget(&mut self, places: usize, next: &'a Ops) -> Result<(), Stop>
         ensures steps { (t : Table) → Fits t self.old
@@ -142,7 +142,7 @@ impl<'a, A: Allocator + Copy> Machine<'a, A> {
         Ok(())
     }
 
-    /// Only the first so many local names are left, and the value stays at hand.
+    /// Only the first `places` local names are left, and the value stays at hand.
     #[inline(always)]
     pub(crate) fn forget_with(
         &mut self,

@@ -1,5 +1,5 @@
 //! Calls of functions, and records.
-ghost use Rattle.std.specs.Prelude.{◌≡◌, ◌+◌, ◌-◌, ◌<◌, ◌^◌, [], ◌∷◌, suc, Some, IfSome, slice_get, option_and_then};
+ghost use Rattle.std.specs.Prelude.{◌≡◌, ◌-◌, [], ◌∷◌, suc, Some, IfSome, slice_get, option_and_then};
 ghost use Rattle.nesl_values.specs.Tree.{tagged};
 ghost use Rattle.nesl_values.specs.View.{tree_of};
 ghost use Rattle.nesl_eval_meaning.specs.Out.{and_then, at_call};
@@ -43,7 +43,7 @@ fn place_called<A: Allocator, T: Tops<A>>(tops: &T, callee: &Callee) -> Option<u
     }
 }
 
-// A record. It is not inlined, so that its answer has no place in the memory of the loop.
+// A record. It is not inlined, so that its result takes no room in the loop's stack frame.
 #[inline(never)]
 fn record_of<A: Allocator>(
     tag: u64,
@@ -78,12 +78,10 @@ impl<'a, A: Allocator + Copy> Machine<'a, A> {
         callee: &Callee,
         next: &'a Ops,
     ) -> Result<Hand<'a, A>, Stop>
-        requires { self.old.meter.fuel + self.old.meter.depth < 2 ^ 64 }
-        ensures moves { let t = T.table tops.now in let m = self.old in Fits t m → Moves t m result self.new
+        ensures { let t = T.table tops.now in let m = self.old in Fits t m → Moves t m result self.new
             (left_with t m (and_then
             (run_called (run (m.levels - suc node.height) t) node.span (slot_of t (callee_is callee.now))
             (tree_of argument)) (λ v. exec t m.levels (env_of m) (block_of next.now) (v ∷ local_of m)))) }
-        ensures bounded { self.new.meter.fuel + self.new.meter.depth < 2 ^ 64 }
     {
         match place_called::<A, T>(tops, callee) {
             Some(place) => self.call_at(tops, argument, node, place, next),
@@ -101,11 +99,9 @@ impl<'a, A: Allocator + Copy> Machine<'a, A> {
         place: usize,
         next: &'a Ops,
     ) -> Result<Hand<'a, A>, Stop>
-        requires { self.old.meter.fuel + self.old.meter.depth < 2 ^ 64 }
-        ensures moves { let t = T.table tops.now in let m = self.old in Fits t m → Moves t m result self.new
+        ensures { let t = T.table tops.now in let m = self.old in Fits t m → Moves t m result self.new
             (left_with t m (and_then (run_called (run (m.levels - suc node.height) t) node.span (slot_at t place)
             (tree_of argument)) (λ v. exec t m.levels (env_of m) (block_of next.now) (v ∷ local_of m)))) }
-        ensures bounded { self.new.meter.fuel + self.new.meter.depth < 2 ^ 64 }
     {
         match tops.held(place) {
             Ok(Held::Function(_)) => {

@@ -37,7 +37,7 @@ impl<'a, A: Allocator + Copy> Machine<'a, A> {
         if self.base > self.slots.len() {
             return Ok(());
         }
-        let mut fuel = self.meter.fuel;
+        let mut fuel = self.meter.fuel();
         let setting = Setting {
             tops: &*tops,
             names: &self.slots[self.base..],
@@ -45,7 +45,7 @@ impl<'a, A: Allocator + Copy> Machine<'a, A> {
             alloc: self.alloc,
         };
         let done = take_in_columns(&setting, &mut **round, &mut fuel);
-        self.meter.fuel = fuel;
+        self.meter.leave(fuel);
         done
     }
 
@@ -117,7 +117,7 @@ impl<'a, A: Allocator + Copy> Machine<'a, A> {
         ensures depth { self.new.meter.depth ≡ self.old.meter.depth }
     {
         self.take_new_filter(tops, round)?;
-        go_to_body(round, self.meter.fuel, self.alloc)?;
+        go_to_body(round, self.meter.fuel(), self.alloc)?;
         self.take_new_body(tops, round)
     }
 }

@@ -1,5 +1,5 @@
 //! Ends of blocks.
-ghost use Rattle.std.specs.Prelude.{◌≡◌, ◌+◌, ◌<◌, ◌^◌, ◌∷◌, ◌++◌, []};
+ghost use Rattle.std.specs.Prelude.{◌≡◌, ◌+◌, ◌∷◌, ◌++◌, []};
 ghost use Rattle.std.specs.declared.vec.Vec.{Vec};
 ghost use Rattle.nesl_values.specs.View.{tree_of};
 ghost use Rattle.nesl_eval_code.specs.Block.{finish};
@@ -23,10 +23,8 @@ impl<'a, A: Allocator + Copy> Machine<'a, A> {
         tops: &T,
         value: Value<A>,
     ) -> Result<Hand<'a, A>, Stop>
-        requires { self.old.meter.fuel + self.old.meter.depth < 2 ^ 64 }
-        ensures moves { let t = T.table tops.now in Fits t self.old → let m = self.old in Moves t m result self.new
+        ensures { let t = T.table tops.now in Fits t self.old → let m = self.old in Moves t m result self.new
             (left_with t m (exec t m.levels (env_of m) finish (tree_of value ∷ local_of m))) }
-        ensures bounded { self.new.meter.fuel + self.new.meter.depth < 2 ^ 64 }
     {
         match self.frames.pop() {
             Some(frame) => self.resume_with(tops, value, frame),
@@ -42,13 +40,11 @@ impl<'a, A: Allocator + Copy> Machine<'a, A> {
         value: Value<A>,
         frame: Frame<'a, A>,
     ) -> Result<Hand<'a, A>, Stop>
-        requires { self.old.meter.fuel + self.old.meter.depth < 2 ^ 64 }
-        ensures moves { let t = T.table tops.now in (before : Vec (Frame A.row.Denot) A.row.Denot)
+        ensures { let t = T.table tops.now in (before : Vec (Frame A.row.Denot) A.row.Denot)
             → let m = record self.old { frames = before } in
             before.items ≡ self.old.frames.items ++ frame.entry ∷ [] → Fits t m
             → Moves t m result self.new
             (left_with t m (exec t m.levels (env_of m) finish (tree_of value ∷ local_of m))) }
-        ensures bounded { self.new.meter.fuel + self.new.meter.depth < 2 ^ 64 }
     {
         let Frame {
             next,

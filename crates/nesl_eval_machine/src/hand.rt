@@ -41,7 +41,7 @@ pub(crate) fn in_hand<'a, A: Allocator>(
     }
 }
 
-/// One more value.
+/// Puts one more value at the end.
 #[inline(always)]
 pub(crate) fn push_value<A: Allocator>(
     values: &mut Vec<Value<A>, A>,
@@ -65,7 +65,7 @@ fn let_go<A: Allocator>(value: Value<A>) {
     }
 }
 
-/// A truth value.
+/// The truth value that a value is.
 #[inline(always)]
 pub(crate) fn read_truth<A: Allocator>(value: Value<A>) -> Result<bool, Stop>
     ensures { MatchResult result (λ b. as_bool (tree_of value) ≡ Some b) (λ e. (e ≡ Stop.Stuck)
@@ -81,7 +81,7 @@ pub(crate) fn read_truth<A: Allocator>(value: Value<A>) -> Result<bool, Stop>
     }
 }
 
-// What may be no truth value, where it is called.
+// The truth value of a value that may be none, by a call that isn't inlined.
 #[inline(always)]
 fn truth_apart<A: Allocator>(value: Value<A>) -> Result<bool, Stop>
     ensures { MatchResult result (λ b. as_bool (tree_of value) ≡ Some b) (λ e. (e ≡ Stop.Stuck)
@@ -108,7 +108,7 @@ fn drop_last<A: Allocator>(values: &mut Vec<Value<A>, A>)
     }
 }
 
-// Only the first so many are left, which are most often all but one.
+// Only the first `len` are left, which are most often all but one.
 #[inline(always)]
 fn cut_last<A: Allocator>(values: &mut Vec<Value<A>, A>, len: usize)
     ensures { values.new.items ≡ take len values.old.items }
@@ -120,7 +120,7 @@ fn cut_last<A: Allocator>(values: &mut Vec<Value<A>, A>, len: usize)
     drop_last(values);
 }
 
-/// Only the first so many are left.
+/// Only the first `len` are left.
 #[inline(always)]
 pub(crate) fn cut<A: Allocator>(values: &mut Vec<Value<A>, A>, len: usize)
     ensures { values.new.items ≡ take len values.old.items }

@@ -1,5 +1,5 @@
 //! Operations that go on within a block.
-ghost use Rattle.std.specs.Prelude.{◌≡◌, ◌+◌, ◌<◌, ◌^◌, ℕ, [], ◌∷◌, map, length, MatchResult};
+ghost use Rattle.std.specs.Prelude.{◌≡◌, ◌+◌, ℕ, [], ◌∷◌, map, length, MatchResult};
 ghost use Rattle.nesl_lex.specs.declared.token.Span.{Span};
 ghost use Rattle.nesl_values.specs.Tree.{ValueTree};
 ghost use Rattle.nesl_values.specs.View.{tree_of};
@@ -43,10 +43,8 @@ impl<'a, A: Allocator + Copy> Machine<'a, A> {
     // Puts a leaf's value on the stack.
     #[inline(always)]
     fn put_leaf<T: Tops<A>>(&mut self, tops: &T, height: u32, leaf: &Leaf) -> Result<(), Stop>
-        requires { self.old.meter.fuel + self.old.meter.depth < 2 ^ 64 }
-        ensures steps { (b : Block) → let t = T.table tops.now in Fits t self.old
+        ensures { (b : Block) → let t = T.table tops.now in Fits t self.old
             → Steps t self.old result self.new b (left_at t self.old (push height (leaf_is leaf.now) b)) }
-        ensures bounded { self.new.meter.fuel + self.new.meter.depth < 2 ^ 64 }
     {
         let sight = Sight {
             tops: &*tops,
@@ -68,10 +66,8 @@ impl<'a, A: Allocator + Copy> Machine<'a, A> {
         leaf: &Leaf,
         next: &'a Ops,
     ) -> Result<Hand<'a, A>, Stop>
-        requires { self.old.meter.fuel + self.old.meter.depth < 2 ^ 64 }
-        ensures moves { let t = T.table tops.now in Fits t self.old → Moves t self.old result self.new
+        ensures { let t = T.table tops.now in Fits t self.old → Moves t self.old result self.new
             (left_at t self.old (push height (leaf_is leaf.now) (block_of next.now))) }
-        ensures bounded { self.new.meter.fuel + self.new.meter.depth < 2 ^ 64 }
     {
         let sight = Sight {
             tops: &*tops,
@@ -87,11 +83,9 @@ impl<'a, A: Allocator + Copy> Machine<'a, A> {
     /// Enters a node that has parts.
     #[inline(always)]
     pub(crate) fn enter(&mut self, height: u32, span: Span, next: &'a Ops) -> Result<(), Stop>
-        requires { self.old.meter.fuel + self.old.meter.depth < 2 ^ 64 }
-        ensures steps { (t : Table) → Fits t self.old
+        ensures { (t : Table) → Fits t self.old
             → Steps t self.old result self.new (block_of self.new.code.now)
             (left_at t self.old (enter height span (block_of next.now))) }
-        ensures bounded { self.new.meter.fuel + self.new.meter.depth < 2 ^ 64 }
     {
         enter_at(&mut self.meter, self.levels, height, span)?;
         self.code = next;
@@ -107,11 +101,9 @@ impl<'a, A: Allocator + Copy> Machine<'a, A> {
         leaf: &Leaf,
         next: &'a Ops,
     ) -> Result<Hand<'a, A>, Stop>
-        requires { self.old.meter.fuel + self.old.meter.depth < 2 ^ 64 }
-        ensures moves { let t = T.table tops.now in Fits t self.old → Moves t self.old result self.new
+        ensures { let t = T.table tops.now in Fits t self.old → Moves t self.old result self.new
             (left_at t self.old
             (make node.height node.span (of_one node.function) 0 (leaf_is leaf.now ∷ []) (block_of next.now))) }
-        ensures bounded { self.new.meter.fuel + self.new.meter.depth < 2 ^ 64 }
     {
         let sight = Sight {
             tops: &*tops,
@@ -134,12 +126,10 @@ impl<'a, A: Allocator + Copy> Machine<'a, A> {
         right: &Leaf,
         next: &'a Ops,
     ) -> Result<Hand<'a, A>, Stop>
-        requires { self.old.meter.fuel + self.old.meter.depth < 2 ^ 64 }
-        ensures moves { let t = T.table tops.now in Fits t self.old → Moves t self.old result self.new
+        ensures { let t = T.table tops.now in Fits t self.old → Moves t self.old result self.new
             (left_at t self.old
             (make node.now.height node.now.span (two_is node.now.two) 0 (leaf_is left.now ∷ leaf_is right.now ∷ [])
             (block_of next.now))) }
-        ensures bounded { self.new.meter.fuel + self.new.meter.depth < 2 ^ 64 }
     {
         let sight = Sight {
             tops: &*tops,
@@ -160,12 +150,10 @@ impl<'a, A: Allocator + Copy> Machine<'a, A> {
         node: OneNode,
         next: &'a Ops,
     ) -> Result<Hand<'a, A>, Stop>
-        requires { self.old.meter.fuel + self.old.meter.depth < 2 ^ 64 }
-        ensures moves { (t : Table) → Fits t self.old → let m = self.old in
+        ensures { (t : Table) → Fits t self.old → let m = self.old in
             Moves t m result self.new (left_with t m (exec t m.levels (env_of m)
             (make node.height node.span (of_one node.function) 1 [] (block_of next.now))
             (tree_of value ∷ local_of m))) }
-        ensures bounded { self.new.meter.fuel + self.new.meter.depth < 2 ^ 64 }
     {
         let found = apply_to_value(node, value, &mut self.meter, self.alloc);
         in_hand(found, next)
@@ -181,12 +169,10 @@ impl<'a, A: Allocator + Copy> Machine<'a, A> {
         right: &Leaf,
         next: &'a Ops,
     ) -> Result<Hand<'a, A>, Stop>
-        requires { self.old.meter.fuel + self.old.meter.depth < 2 ^ 64 }
-        ensures moves { let t = T.table tops.now in Fits t self.old → let m = self.old in
+        ensures { let t = T.table tops.now in Fits t self.old → let m = self.old in
             Moves t m result self.new (left_with t m (exec t m.levels (env_of m)
             (make node.now.height node.now.span (two_is node.now.two) 1 (leaf_is right.now ∷ []) (block_of next.now))
             (tree_of value ∷ local_of m))) }
-        ensures bounded { self.new.meter.fuel + self.new.meter.depth < 2 ^ 64 }
     {
         let sight = Sight {
             tops: &*tops,
@@ -207,12 +193,10 @@ impl<'a, A: Allocator + Copy> Machine<'a, A> {
         node: &TwoNode,
         next: &'a Ops,
     ) -> Result<Hand<'a, A>, Stop>
-        requires { self.old.meter.fuel + self.old.meter.depth < 2 ^ 64 }
-        ensures moves { (t : Table) → Fits t self.old → let m = self.old in
+        ensures { (t : Table) → Fits t self.old → let m = self.old in
             Moves t m result self.new (left_with t m (exec t m.levels (env_of m)
             (make node.now.height node.now.span (two_is node.now.two) 2 [] (block_of next.now))
             (tree_of right ∷ local_of m))) }
-        ensures bounded { self.new.meter.fuel + self.new.meter.depth < 2 ^ 64 }
     {
         match self.stack.pop() {
             Some(left) => self.of_both(left, right, node, next),
@@ -229,12 +213,10 @@ impl<'a, A: Allocator + Copy> Machine<'a, A> {
         node: &TwoNode,
         next: &'a Ops,
     ) -> Result<Hand<'a, A>, Stop>
-        requires { self.old.meter.fuel + self.old.meter.depth < 2 ^ 64 }
-        ensures moves { (t : Table) → Fits t self.old → let m = self.old in
+        ensures { (t : Table) → Fits t self.old → let m = self.old in
             Moves t m result self.new (left_with t m (exec t m.levels (env_of m)
             (make node.now.height node.now.span (two_is node.now.two) 2 [] (block_of next.now))
             (tree_of right ∷ tree_of left ∷ local_of m))) }
-        ensures bounded { self.new.meter.fuel + self.new.meter.depth < 2 ^ 64 }
     {
         let found = make_of_two(node, left, right, &mut self.meter, self.alloc);
         in_hand(found, next)
@@ -242,11 +224,9 @@ impl<'a, A: Allocator + Copy> Machine<'a, A> {
 
     // Puts the values of leaves on the stack, one after the other.
     fn put_leaves<T: Tops<A>>(&mut self, tops: &T, height: u32, leaves: &[Leaf]) -> Result<(), Stop>
-        requires { self.old.meter.fuel + self.old.meter.depth < 2 ^ 64 }
-        ensures steps { (s : Span) (f : Maker) (k : ℕ) (b : Block) → let t = T.table tops.now in Fits t self.old
+        ensures { (s : Span) (f : Maker) (k : ℕ) (b : Block) → let t = T.table tops.now in Fits t self.old
             → Steps t self.old result self.new (make height s f (k + length leaves.now) [] b)
             (left_at t self.old (make height s f k (map leaf_is leaves.now) b)) }
-        ensures bounded { self.new.meter.fuel + self.new.meter.depth < 2 ^ 64 }
     {
         for leaf in leaves {
             self.put_leaf(tops, height, leaf)?;
@@ -254,7 +234,7 @@ impl<'a, A: Allocator + Copy> Machine<'a, A> {
         Ok(())
     }
 
-    /// What is made of so many values on top and leaves.
+    /// What is made of `count` values on top and of leaves.
     #[inline(always)]
     pub(crate) fn of_many<T: Tops<A>>(
         &mut self,
@@ -264,16 +244,14 @@ impl<'a, A: Allocator + Copy> Machine<'a, A> {
         leaves: &[Leaf],
         next: &'a Ops,
     ) -> Result<Hand<'a, A>, Stop>
-        requires { self.old.meter.fuel + self.old.meter.depth < 2 ^ 64 }
-        ensures moves { let t = T.table tops.now in Fits t self.old → Moves t self.old result self.new
+        ensures { let t = T.table tops.now in Fits t self.old → Moves t self.old result self.new
             (left_at t self.old
             (make node.height node.span (many_is node.many) count (map leaf_is leaves.now) (block_of next.now))) }
-        ensures bounded { self.new.meter.fuel + self.new.meter.depth < 2 ^ 64 }
     {
         self.of_so_many(tops, node, count, leaves, next)
     }
 
-    // It is not inlined, so that its answer has no place in the memory of the loop.
+    // It is not inlined, so that its result takes no room in the loop's stack frame.
     #[inline(never)]
     fn of_so_many<T: Tops<A>>(
         &mut self,
@@ -283,11 +261,9 @@ impl<'a, A: Allocator + Copy> Machine<'a, A> {
         leaves: &[Leaf],
         next: &'a Ops,
     ) -> Result<Hand<'a, A>, Stop>
-        requires { self.old.meter.fuel + self.old.meter.depth < 2 ^ 64 }
-        ensures moves { let t = T.table tops.now in Fits t self.old → Moves t self.old result self.new
+        ensures { let t = T.table tops.now in Fits t self.old → Moves t self.old result self.new
             (left_at t self.old
             (make node.height node.span (many_is node.many) count (map leaf_is leaves.now) (block_of next.now))) }
-        ensures bounded { self.new.meter.fuel + self.new.meter.depth < 2 ^ 64 }
     {
         self.put_leaves(tops, node.height, leaves)?;
         match count.checked_add(leaves.len()) {
@@ -296,17 +272,15 @@ impl<'a, A: Allocator + Copy> Machine<'a, A> {
         }
     }
 
-    // What is made of so many values on top.
+    // What is made of `count` values on top.
     fn of_all_tops(
         &mut self,
         node: ManyNode,
         count: usize,
         next: &'a Ops,
     ) -> Result<Hand<'a, A>, Stop>
-        requires { self.old.meter.fuel + self.old.meter.depth < 2 ^ 64 }
-        ensures moves { (t : Table) → Fits t self.old → Moves t self.old result self.new (left_at t self.old
+        ensures { (t : Table) → Fits t self.old → Moves t self.old result self.new (left_at t self.old
             (make node.height node.span (many_is node.many) count [] (block_of next.now))) }
-        ensures bounded { self.new.meter.fuel + self.new.meter.depth < 2 ^ 64 }
     {
         match take_off(&mut self.stack, count)? {
             Some(values) => self.of_all(values, node, next),
@@ -321,19 +295,17 @@ impl<'a, A: Allocator + Copy> Machine<'a, A> {
         node: ManyNode,
         next: &'a Ops,
     ) -> Result<Hand<'a, A>, Stop>
-        requires { self.old.meter.fuel + self.old.meter.depth < 2 ^ 64 }
-        ensures moves { (t : Table) → Fits t self.old → let m = self.old in
+        ensures { (t : Table) → Fits t self.old → let m = self.old in
             Moves t m result self.new (left_with t m
             (and_then (made_of node.span (many_is node.many) (map tree_of values.items))
             (λ v. exec t m.levels (env_of m) (block_of next.now) (v ∷ local_of m)))) }
-        ensures bounded { self.new.meter.fuel + self.new.meter.depth < 2 ^ 64 }
     {
         let found = make_of_many(node.many, values, node.span, &mut self.meter, self.alloc);
         in_hand(found, next)
     }
 }
 
-// One value.
+// The vector of one value.
 #[inline(always)]
 fn one_value<A: Allocator + Copy>(value: Value<A>, alloc: A) -> Result<Vec<Value<A>, A>, Stop>
     ensures { MatchResult result (λ values. values.items ≡ value ∷ []) (λ e. e ≡ Stop.Memory) }
@@ -361,7 +333,7 @@ fn take_last<A: Allocator + Copy>(
     Ok(Some(values))
 }
 
-/// Takes so many values off a stack, if there are so many.
+/// Takes `count` values off a stack, if there are that many.
 pub fn take_off<A: Allocator + Copy>(
     stack: &mut Vec<Value<A>, A>,
     count: usize,

@@ -1,6 +1,6 @@
 //! What is next is done in the same move as the step before it, where it is frequent: the loop of a run goes round less
 //! often.
-ghost use Rattle.std.specs.Prelude.{◌+◌, ◌<◌, ◌^◌, ◌∷◌};
+ghost use Rattle.std.specs.Prelude.{◌∷◌};
 ghost use Rattle.nesl_values.specs.Tree.{ValueTree};
 ghost use Rattle.nesl_values.specs.View.{tree_of};
 ghost use Rattle.nesl_eval_code.specs.Exec.{exec};
@@ -21,10 +21,8 @@ impl<'a, A: Allocator + Copy> Machine<'a, A> {
     // A node of two leaves, if one is next.
     #[inline(always)]
     fn go_on_at_leaves<T: Tops<A>>(&mut self, tops: &T) -> Result<Hand<'a, A>, Stop>
-        requires { self.old.meter.fuel + self.old.meter.depth < 2 ^ 64 }
-        ensures moves { let t = T.table tops.now in Fits t self.old
+        ensures { let t = T.table tops.now in Fits t self.old
             → Moves t self.old result self.new (left t self.old) }
-        ensures bounded { self.new.meter.fuel + self.new.meter.depth < 2 ^ 64 }
     {
         let code = self.code;
         match code {
@@ -41,10 +39,8 @@ impl<'a, A: Allocator + Copy> Machine<'a, A> {
     /// Enters a node, if one is next that has parts, and goes on with a node of two leaves, if one is next then.
     #[inline(always)]
     pub(crate) fn go_on_at_once<T: Tops<A>>(&mut self, tops: &T) -> Result<Hand<'a, A>, Stop>
-        requires { self.old.meter.fuel + self.old.meter.depth < 2 ^ 64 }
-        ensures moves { let t = T.table tops.now in Fits t self.old
+        ensures { let t = T.table tops.now in Fits t self.old
             → Moves t self.old result self.new (left t self.old) }
-        ensures bounded { self.new.meter.fuel + self.new.meter.depth < 2 ^ 64 }
     {
         let code = self.code;
         if let Ops::Enter { height, span, next } = code {
@@ -60,10 +56,8 @@ impl<'a, A: Allocator + Copy> Machine<'a, A> {
         tops: &T,
         done: Result<(), Stop>,
     ) -> Result<Hand<'a, A>, Stop>
-        requires { self.old.meter.fuel + self.old.meter.depth < 2 ^ 64 }
-        ensures moves { (m : declared.Machine A) (o : Out ValueTree) → let t = T.table tops.now in
+        ensures { (m : declared.Machine A) (o : Out ValueTree) → let t = T.table tops.now in
             Steps t m done self.old (block_of self.old.code.now) o → Moves t m result self.new o }
-        ensures bounded { self.new.meter.fuel + self.new.meter.depth < 2 ^ 64 }
     {
         match done {
             Ok(()) => self.go_on_at_once(tops),

@@ -1,5 +1,5 @@
 //! The rounds of an apply-to-each.
-ghost use Rattle.std.specs.Prelude.{◌≡◌, ℕ, ◌+◌, ◌<◌, ◌^◌, ◌∷◌, ◌++◌, ◌⊎◌, [], Some, None};
+ghost use Rattle.std.specs.Prelude.{◌≡◌, ℕ, ◌+◌, ◌∷◌, ◌++◌, ◌⊎◌, [], Some, None};
 ghost use Rattle.std.specs.Prelude.{MatchResult, map, slice_get};
 ghost use Rattle.std.specs.declared.vec.Vec.{Vec};
 ghost use Rattle.nesl_values.specs.View.{tree_of};
@@ -28,7 +28,7 @@ use nesl_values::Value;
 use nesl_values_builder::SequenceBuilder;
 use std::alloc::Allocator;
 
-/// Where an apply-to-each stands, and how many sequences it goes over.
+/// Where an apply-to-each is, and how many sequences it goes over.
 #[derive(Clone, Copy)]
 pub(crate) struct EachNode {
     pub span: Span,
@@ -42,8 +42,8 @@ struct Rounds<'a> {
     body: Option<&'a Body>,
 }
 
-/// What a round sees again after a turn: its local names have the slots from `base` to `len`, and there are so many
-/// levels. After the round comes what is next.
+/// What a round sees again after a turn: its local names, which have the slots from `base` to `len`, and its levels.
+/// After the round comes what is next.
 #[derive(Clone, Copy)]
 pub(crate) struct Outer<'a> {
     pub next: &'a Ops,
@@ -70,7 +70,7 @@ fn put_at<'a, A: Allocator + Copy>(round: &mut Box<Round<'a, A>, A>, place: usiz
 }
 
 impl<'a, A: Allocator + Copy> Machine<'a, A> {
-    /// A body at all places of the so many sequences on top.
+    /// A body at all places of the sequences on top.
     #[inline(always)]
     pub(crate) fn each<T: Tops<A>>(
         &mut self,
@@ -79,16 +79,14 @@ impl<'a, A: Allocator + Copy> Machine<'a, A> {
         body: &'a Body,
         next: &'a Ops,
     ) -> Result<(), Stop>
-        requires { self.old.meter.fuel + self.old.meter.depth < 2 ^ 64 }
-        ensures steps { let t = T.table tops.now in Fits t self.old
+        ensures { let t = T.table tops.now in Fits t self.old
             → Steps t self.old result self.new (block_of self.new.code.now)
             (left_at t self.old (each node.span node.count (body_block body.now) (block_of next.now))) }
-        ensures bounded { self.new.meter.fuel + self.new.meter.depth < 2 ^ 64 }
     {
         self.begin_each(tops, node, body, next)
     }
 
-    // It is not inlined, so that its answer has no place in the memory of the loop.
+    // It is not inlined, so that its result takes no room in the loop's stack frame.
     #[inline(never)]
     fn begin_each<T: Tops<A>>(
         &mut self,
@@ -97,11 +95,9 @@ impl<'a, A: Allocator + Copy> Machine<'a, A> {
         body: &'a Body,
         next: &'a Ops,
     ) -> Result<(), Stop>
-        requires { self.old.meter.fuel + self.old.meter.depth < 2 ^ 64 }
-        ensures steps { let t = T.table tops.now in Fits t self.old
+        ensures { let t = T.table tops.now in Fits t self.old
             → Steps t self.old result self.new (block_of self.new.code.now)
             (left_at t self.old (each node.span node.count (body_block body.now) (block_of next.now))) }
-        ensures bounded { self.new.meter.fuel + self.new.meter.depth < 2 ^ 64 }
     {
         let rounds = Rounds {
             block: body,
@@ -113,7 +109,7 @@ impl<'a, A: Allocator + Copy> Machine<'a, A> {
         }
     }
 
-    /// A body at the places of the so many sequences on top where a filter holds.
+    /// A body at the places of the sequences on top where a filter holds.
     #[inline(always)]
     pub(crate) fn filtered<T: Tops<A>>(
         &mut self,
@@ -123,16 +119,14 @@ impl<'a, A: Allocator + Copy> Machine<'a, A> {
         filter: &'a Body,
         next: &'a Ops,
     ) -> Result<(), Stop>
-        requires { self.old.meter.fuel + self.old.meter.depth < 2 ^ 64 }
-        ensures steps { let t = T.table tops.now in Fits t self.old
+        ensures { let t = T.table tops.now in Fits t self.old
             → Steps t self.old result self.new (block_of self.new.code.now) (left_at t self.old
             (filtered node.span node.count (body_block body.now) (body_block filter.now) (block_of next.now))) }
-        ensures bounded { self.new.meter.fuel + self.new.meter.depth < 2 ^ 64 }
     {
         self.begin_filtered(tops, node, body, filter, next)
     }
 
-    // It is not inlined, so that its answer has no place in the memory of the loop.
+    // It is not inlined, so that its result takes no room in the loop's stack frame.
     #[inline(never)]
     fn begin_filtered<T: Tops<A>>(
         &mut self,
@@ -142,11 +136,9 @@ impl<'a, A: Allocator + Copy> Machine<'a, A> {
         filter: &'a Body,
         next: &'a Ops,
     ) -> Result<(), Stop>
-        requires { self.old.meter.fuel + self.old.meter.depth < 2 ^ 64 }
-        ensures steps { let t = T.table tops.now in Fits t self.old
+        ensures { let t = T.table tops.now in Fits t self.old
             → Steps t self.old result self.new (block_of self.new.code.now) (left_at t self.old
             (filtered node.span node.count (body_block body.now) (body_block filter.now) (block_of next.now))) }
-        ensures bounded { self.new.meter.fuel + self.new.meter.depth < 2 ^ 64 }
     {
         let rounds = Rounds {
             block: filter,
@@ -168,13 +160,11 @@ impl<'a, A: Allocator + Copy> Machine<'a, A> {
         rounds: Rounds<'a>,
         next: &'a Ops,
     ) -> Result<(), Stop>
-        requires { self.old.meter.fuel + self.old.meter.depth < 2 ^ 64 }
-        ensures steps { let t = T.table tops.now in let m = self.old in let r = rounds.entry in
+        ensures { let t = T.table tops.now in let m = self.old in let r = rounds.entry in
             let vs = map tree_of sources.items in Fits t m
             → Steps t m result self.new (block_of self.new.code.now) (left_with t m
             (and_then (at_places span vs (in_rounds t m.levels (env_of m) vs (body_block r.block.now) r.body))
             (λ v. exec t m.levels (env_of m) (block_of next.now) (v ∷ local_of m)))) }
-        ensures bounded { self.new.meter.fuel + self.new.meter.depth < 2 ^ 64 }
     {
         let round = self.first_round(sources, span, rounds.block, rounds.body)?;
         self.go_round(tops, round, next)
@@ -206,7 +196,7 @@ impl<'a, A: Allocator + Copy> Machine<'a, A> {
             chosen: Chosen::All(count),
             turns: 0,
             place: 0,
-            start: self.meter.depth,
+            start: self.meter.depth(),
             most: 0,
             kept: Vec::new(self.alloc),
             values: SequenceBuilder::with_room(self.alloc, count),
@@ -216,18 +206,16 @@ impl<'a, A: Allocator + Copy> Machine<'a, A> {
 
     /// Goes on with a round between two turns. Where it has had none, all of them are taken in columns, if they can be.
     #[inline(always)]
-    pub fn go_round<T: Tops<A>>(
+    fn go_round<T: Tops<A>>(
         &mut self,
         tops: &T,
         round: Box<Round<'a, A>, A>,
         next: &'a Ops,
     ) -> Result<(), Stop>
-        requires { self.old.meter.fuel < 2 ^ 64 }
-        ensures steps { let t = T.table tops.now in let m = self.old in Fits t m
+        ensures { let t = T.table tops.now in let m = self.old in Fits t m
             → Steps t m result self.new (block_of self.new.code.now)
             (unwound t (frames_of m) (slots_of m) (stack_of m)
             (between t m.levels (block_of next.now) (env_of m) (local_of m) round.entry.value)) }
-        ensures bounded { self.new.meter.fuel + self.new.meter.depth < 2 ^ 64 }
     {
         match place_alone(&*round) {
             Some(place) => self.begin_turn(round, place, next),
@@ -243,14 +231,12 @@ impl<'a, A: Allocator + Copy> Machine<'a, A> {
         mut round: Box<Round<'a, A>, A>,
         next: &'a Ops,
     ) -> Result<(), Stop>
-        requires { self.old.meter.fuel < 2 ^ 64 }
-        ensures steps { let t = T.table tops.now in let m = self.old in Fits t m
+        ensures { let t = T.table tops.now in let m = self.old in Fits t m
             → Steps t m result self.new (block_of self.new.code.now)
             (unwound t (frames_of m) (slots_of m) (stack_of m)
             (between t m.levels (block_of next.now) (env_of m) (local_of m) round.entry.value)) }
-        ensures bounded { self.new.meter.fuel + self.new.meter.depth < 2 ^ 64 }
     {
-        self.meter.depth = 0;
+        self.meter.restart();
         self.take_new_rounds(tops, &mut round)?;
         self.go_on_with_round(round, next)
     }
@@ -262,12 +248,10 @@ impl<'a, A: Allocator + Copy> Machine<'a, A> {
         round: Box<Round<'a, A>, A>,
         next: &'a Ops,
     ) -> Result<(), Stop>
-        requires { self.old.meter.fuel < 2 ^ 64 }
-        ensures steps { (t : Table) → let m = self.old in Fits t m
+        ensures { (t : Table) → let m = self.old in Fits t m
             → Steps t m result self.new (block_of self.new.code.now)
             (unwound t (frames_of m) (slots_of m) (stack_of m)
             (between t m.levels (block_of next.now) (env_of m) (local_of m) round.entry.value)) }
-        ensures bounded { self.new.meter.fuel + self.new.meter.depth < 2 ^ 64 }
     {
         match round.chosen.at(round.turns) {
             Some(place) => self.begin_turn(round, place, next),
@@ -283,15 +267,13 @@ impl<'a, A: Allocator + Copy> Machine<'a, A> {
         place: usize,
         next: &'a Ops,
     ) -> Result<(), Stop>
-        requires { self.old.meter.fuel < 2 ^ 64 }
-        ensures steps { (t : Table) → let m = self.old in Fits t m
+        ensures { (t : Table) → let m = self.old in Fits t m
             → slice_get (chosen_places round.entry.value.chosen) round.entry.value.turns ≡ Some place
             → Steps t m result self.new (block_of self.new.code.now)
             (unwound t (frames_of m) (slots_of m) (stack_of m)
             (between t m.levels (block_of next.now) (env_of m) (local_of m) round.entry.value)) }
-        ensures bounded { self.new.meter.fuel + self.new.meter.depth < 2 ^ 64 }
     {
-        self.meter.depth = 0;
+        self.meter.restart();
         let len = self.slots.len();
         put_at(&mut round, place);
         push_row(&mut self.slots, &round.sources, place)?;
@@ -312,15 +294,13 @@ impl<'a, A: Allocator + Copy> Machine<'a, A> {
     // Puts the sequence of the values of a body on the stack.
     #[inline(always)]
     fn end_round(&mut self, round: Box<Round<'a, A>, A>, next: &'a Ops) -> Result<(), Stop>
-        requires { self.old.meter.fuel < 2 ^ 64 }
-        ensures steps { (t : Table) → let m = self.old in Fits t m
+        ensures { (t : Table) → let m = self.old in Fits t m
             → slice_get (chosen_places round.entry.value.chosen) round.entry.value.turns ≡ None
             → Steps t m result self.new (block_of self.new.code.now)
             (unwound t (frames_of m) (slots_of m) (stack_of m)
             (between t m.levels (block_of next.now) (env_of m) (local_of m) round.entry.value)) }
-        ensures bounded { self.new.meter.fuel + self.new.meter.depth < 2 ^ 64 }
     {
-        self.meter.depth = 0;
+        self.meter.restart();
         let Round {
             block: _,
             body,
@@ -336,10 +316,10 @@ impl<'a, A: Allocator + Copy> Machine<'a, A> {
         if body.is_some() {
             return Err(Stop::Memory);
         }
-        let depth = depth_after(start, most, self.meter.fuel)?;
+        let depth = depth_after(start, most, self.meter.fuel())?;
         let value = finish(values)?;
         keep(&mut self.stack, value)?;
-        self.meter.depth = depth;
+        self.meter.set_depth(depth);
         self.code = next;
         Ok(())
     }
@@ -352,12 +332,10 @@ impl<'a, A: Allocator + Copy> Machine<'a, A> {
         round: Box<Round<'a, A>, A>,
         next: &'a Ops,
     ) -> Result<(), Stop>
-        requires { self.old.meter.fuel < 2 ^ 64 }
-        ensures steps { let t = T.table tops.now in let m = self.old in Fits t m
+        ensures { let t = T.table tops.now in let m = self.old in Fits t m
             → Steps t m result self.new (block_of self.new.code.now)
             (unwound t (frames_of m) (slots_of m) (stack_of m)
             (between t m.levels (block_of next.now) (env_of m) (local_of m) round.entry.value)) }
-        ensures bounded { self.new.meter.fuel + self.new.meter.depth < 2 ^ 64 }
     {
         match round.chosen.at(round.turns) {
             Some(place) => self.begin_turn(round, place, next),
@@ -373,13 +351,11 @@ impl<'a, A: Allocator + Copy> Machine<'a, A> {
         round: Box<Round<'a, A>, A>,
         next: &'a Ops,
     ) -> Result<(), Stop>
-        requires { self.old.meter.fuel < 2 ^ 64 }
-        ensures steps { let t = T.table tops.now in let m = self.old in Fits t m
+        ensures { let t = T.table tops.now in let m = self.old in Fits t m
             → slice_get (chosen_places round.entry.value.chosen) round.entry.value.turns ≡ None
             → Steps t m result self.new (block_of self.new.code.now)
             (unwound t (frames_of m) (slots_of m) (stack_of m)
             (between t m.levels (block_of next.now) (env_of m) (local_of m) round.entry.value)) }
-        ensures bounded { self.new.meter.fuel + self.new.meter.depth < 2 ^ 64 }
     {
         match round.body {
             Some(_) => self.go_round_apart(tops, round, next),
@@ -396,8 +372,7 @@ impl<'a, A: Allocator + Copy> Machine<'a, A> {
         outer: Outer<'a>,
         round: Box<Round<'a, A>, A>,
     ) -> Result<(), Stop>
-        requires { self.old.meter.fuel + self.old.meter.depth < 2 ^ 64 }
-        ensures steps { let t = T.table tops.now in (before : Vec (Frame A.row.Denot) A.row.Denot) (height : ℕ)
+        ensures { let t = T.table tops.now in (before : Vec (Frame A.row.Denot) A.row.Denot) (height : ℕ)
             → let m = record self.old { frames = before } in let o = outer.entry in
             before.items ≡ self.old.frames.items ++ (record {
               next = o.next;
@@ -409,12 +384,11 @@ impl<'a, A: Allocator + Copy> Machine<'a, A> {
             }) ∷ []
             → Fits t m → Steps t m result self.new (block_of self.new.code.now)
             (left_with t m (exec t m.levels (env_of m) finish (tree_of value ∷ local_of m))) }
-        ensures bounded { self.new.meter.fuel + self.new.meter.depth < 2 ^ 64 }
     {
         self.end_any_turn(tops, value, outer, round)
     }
 
-    // It is not inlined, so that its answer has no place in the memory of the loop.
+    // It is not inlined, so that its result takes no room in the loop's stack frame.
     #[inline(never)]
     fn end_any_turn<T: Tops<A>>(
         &mut self,
@@ -423,8 +397,7 @@ impl<'a, A: Allocator + Copy> Machine<'a, A> {
         outer: Outer<'a>,
         mut round: Box<Round<'a, A>, A>,
     ) -> Result<(), Stop>
-        requires { self.old.meter.fuel + self.old.meter.depth < 2 ^ 64 }
-        ensures steps { let t = T.table tops.now in (before : Vec (Frame A.row.Denot) A.row.Denot) (height : ℕ)
+        ensures { let t = T.table tops.now in (before : Vec (Frame A.row.Denot) A.row.Denot) (height : ℕ)
             → let m = record self.old { frames = before } in let o = outer.entry in
             before.items ≡ self.old.frames.items ++ (record {
               next = o.next;
@@ -436,7 +409,6 @@ impl<'a, A: Allocator + Copy> Machine<'a, A> {
             }) ∷ []
             → Fits t m → Steps t m result self.new (block_of self.new.code.now)
             (left_with t m (exec t m.levels (env_of m) finish (tree_of value ∷ local_of m))) }
-        ensures bounded { self.new.meter.fuel + self.new.meter.depth < 2 ^ 64 }
     {
         self.give_turn(value, outer.base, outer.len, outer.levels, &mut round)?;
         self.go_on_after_turn(tops, round, outer.next)
@@ -453,15 +425,13 @@ impl<'a, A: Allocator + Copy> Machine<'a, A> {
         levels: u32,
         round: &mut Box<Round<'a, A>, A>,
     ) -> Result<(), Stop>
-        requires { self.old.meter.fuel + self.old.meter.depth < 2 ^ 64 }
-        ensures rests { (t : Table) (before : Vec (Frame A.row.Denot) A.row.Denot) (f : Frame A.row.Denot)
+        ensures { (t : Table) (before : Vec (Frame A.row.Denot) A.row.Denot) (f : Frame A.row.Denot)
             → let m = record self.old { frames = before } in
             before.items ≡ self.old.frames.items ++ f ∷ [] → f.base ≡ base → f.len ≡ len → f.levels ≡ levels
             → f.purpose ≡ Purpose.Turn round.old
             → Fits t m
             → Rests t m.meter.fuel result self.new (block_of f.next.now) round.new.value
             (left_with t m (exec t m.levels (env_of m) finish (tree_of value ∷ local_of m))) }
-        ensures bounded { self.new.meter.fuel + self.new.meter.depth < 2 ^ 64 }
     {
         gather(round, value, &mut self.meter)?;
         cut(&mut self.slots, len);
@@ -479,14 +449,12 @@ impl<'a, A: Allocator + Copy> Machine<'a, A> {
         levels: u32,
         round: &mut Box<Round<'a, A>, A>,
     ) -> Result<(), Stop>
-        requires { self.old.meter.fuel + self.old.meter.depth < 2 ^ 64 }
-        ensures rests { (t : Table) (before : Vec (Frame A.row.Denot) A.row.Denot) (f : Frame A.row.Denot)
+        ensures { (t : Table) (before : Vec (Frame A.row.Denot) A.row.Denot) (f : Frame A.row.Denot)
             → let m = record self.old { frames = before } in
             before.items ≡ self.old.frames.items ++ f ∷ [] → f.base ≡ base → f.len ≡ len → f.levels ≡ levels
             → f.purpose ≡ Purpose.Turn round.old
             → Fits t m
             → Rests t m.meter.fuel result self.new (block_of f.next.now) round.new.value (left_at t m finish) }
-        ensures bounded { self.new.meter.fuel + self.new.meter.depth < 2 ^ 64 }
     {
         match self.stack.pop() {
             Some(value) => self.give_turn(value, base, len, levels, round),

@@ -1,5 +1,5 @@
 //! Whole runs.
-ghost use Rattle.std.specs.Prelude.{◌≡◌, ℕ, ◌+◌, ◌<◌, ◌^◌, [], ◌∷◌};
+ghost use Rattle.std.specs.Prelude.{◌≡◌, ℕ, [], ◌∷◌};
 ghost use Rattle.nesl_values.specs.View.{tree_of};
 ghost use Rattle.nesl_eval_meaning.specs.Out.{stuck};
 ghost use Rattle.nesl_eval_code.specs.declared.code.Code.{Code};
@@ -36,7 +36,7 @@ fn outermost<A: Allocator>(frames: &[Frame<'_, A>], span: Span) -> Span
 }
 
 impl<'a, A: Allocator + Copy> Machine<'a, A> {
-    /// A fault is told with the span of the outermost call.
+    /// A fault has the span of the outermost call.
     pub fn place_stop(&self, stop: Stop) -> Stop
         ensures { result ≡ placed_stop (frames_of self.now) stop }
     {
@@ -51,10 +51,8 @@ impl<'a, A: Allocator + Copy> Machine<'a, A> {
     // The next operation, where nothing is at hand.
     #[inline(always)]
     fn operate<T: Tops<A>>(&mut self, tops: &T) -> Result<Hand<'a, A>, Stop>
-        requires { self.old.meter.fuel + self.old.meter.depth < 2 ^ 64 }
-        ensures moves { let t = T.table tops.now in Fits t self.old
+        ensures { let t = T.table tops.now in Fits t self.old
             → Moves t self.old result self.new (left t self.old) }
-        ensures bounded { self.new.meter.fuel + self.new.meter.depth < 2 ^ 64 }
     {
         let code = self.code;
         match code {
@@ -121,10 +119,8 @@ impl<'a, A: Allocator + Copy> Machine<'a, A> {
         value: Value<A>,
         code: &'a Ops,
     ) -> Result<Hand<'a, A>, Stop>
-        requires { self.old.meter.fuel + self.old.meter.depth < 2 ^ 64 }
-        ensures moves { let t = T.table tops.now in Fits t self.old → let m = self.old in Moves t m result self.new
+        ensures { let t = T.table tops.now in Fits t self.old → let m = self.old in Moves t m result self.new
             (left_with t m (exec t m.levels (env_of m) (block_of code.now) (tree_of value ∷ local_of m))) }
-        ensures bounded { self.new.meter.fuel + self.new.meter.depth < 2 ^ 64 }
     {
         match code {
             Ops::Finish => self.finish_with(tops, value),
@@ -178,15 +174,13 @@ impl<'a, A: Allocator + Copy> Machine<'a, A> {
         value: Value<A>,
         code: &'a Ops,
     ) -> Result<Hand<'a, A>, Stop>
-        requires { self.old.meter.fuel + self.old.meter.depth < 2 ^ 64 }
-        ensures moves { let t = T.table tops.now in Fits t self.old → let m = self.old in Moves t m result self.new
+        ensures { let t = T.table tops.now in Fits t self.old → let m = self.old in Moves t m result self.new
             (left_with t m (exec t m.levels (env_of m) (block_of code.now) (tree_of value ∷ local_of m))) }
-        ensures bounded { self.new.meter.fuel + self.new.meter.depth < 2 ^ 64 }
     {
         self.take_any(tops, value, code)
     }
 
-    // What is less frequent takes it.
+    // The less frequent operations, which take the value at hand. Not inlined.
     #[inline(never)]
     fn take_any<T: Tops<A>>(
         &mut self,
@@ -194,10 +188,8 @@ impl<'a, A: Allocator + Copy> Machine<'a, A> {
         value: Value<A>,
         code: &'a Ops,
     ) -> Result<Hand<'a, A>, Stop>
-        requires { self.old.meter.fuel + self.old.meter.depth < 2 ^ 64 }
-        ensures moves { let t = T.table tops.now in Fits t self.old → let m = self.old in Moves t m result self.new
+        ensures { let t = T.table tops.now in Fits t self.old → let m = self.old in Moves t m result self.new
             (left_with t m (exec t m.levels (env_of m) (block_of code.now) (tree_of value ∷ local_of m))) }
-        ensures bounded { self.new.meter.fuel + self.new.meter.depth < 2 ^ 64 }
     {
         match code {
             Ops::OfTop { node, next } => self.of_value(value, *node, next.ops()),
@@ -226,10 +218,8 @@ impl<'a, A: Allocator + Copy> Machine<'a, A> {
     /// One move: of what is at hand, or else the next operation.
     #[inline(always)]
     pub fn go_on<T: Tops<A>>(&mut self, tops: &T, hand: Hand<'a, A>) -> Result<Hand<'a, A>, Stop>
-        requires { self.old.meter.fuel + self.old.meter.depth < 2 ^ 64 }
-        ensures moves { let t = T.table tops.now in Fits t self.old
+        ensures { let t = T.table tops.now in Fits t self.old
             → Moves t self.old result self.new (left_at_hand t self.old hand.entry) }
-        ensures bounded { self.new.meter.fuel + self.new.meter.depth < 2 ^ 64 }
     {
         match hand {
             Hand::Empty => self.operate(tops),
@@ -240,7 +230,6 @@ impl<'a, A: Allocator + Copy> Machine<'a, A> {
 
     // All that is left. No run makes 2^64 - 1 moves.
     fn run<T: Tops<A>>(&mut self, tops: &T) -> Result<Value<A>, Stop>
-        requires { self.old.meter.fuel + self.old.meter.depth < 2 ^ 64 }
         ensures { let t = T.table tops.now in Fits t self.old → Ends self.old result self.new (left t self.old) }
     {
         let mut hand = Hand::Empty;
@@ -255,7 +244,7 @@ impl<'a, A: Allocator + Copy> Machine<'a, A> {
     }
 }
 
-/// What the operations of an expression come to with so many levels and so much fuel, and the meter at the end.
+/// What the operations of an expression evaluate to with these levels and this fuel, and the meter at the end.
 pub fn evaluate_ops<A: Allocator + Copy, T: Tops<A>>(
     tops: &T,
     bodies: &[Option<Ops>],
@@ -275,7 +264,7 @@ pub fn evaluate_ops<A: Allocator + Copy, T: Tops<A>>(
         frames: Vec::new(alloc),
         base: 0,
         levels,
-        meter: Meter { fuel, depth: 0 },
+        meter: Meter::new(fuel),
         alloc,
     };
     let found = machine.run(tops);

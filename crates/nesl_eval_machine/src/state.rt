@@ -45,7 +45,7 @@ pub enum Hand<'a, A: Allocator> {
 /// after the block that it is in.
 #[derive(Drop)]
 pub struct Machine<'a, A: Allocator> {
-    /// The bodies of functions, by place; one may be wanting.
+    /// The bodies of functions, by place; one may be missing.
     pub bodies: &'a [Option<Ops>],
     pub code: &'a Ops,
     pub slots: Vec<Value<A>, A>,

@@ -1,3 +1,4 @@
+pub mod Measures
 pub mod Sides
 pub mod Holds
 pub mod Meets

@@ -1,5 +1,5 @@
 //! What each node does with what its parts come to. No recursion here.
-ghost use Rattle.std.specs.Prelude.{◌≡◌, List, ◌==◌, ◌+◌, ◌<◌, ◌≤◌, ◌^◌, ◌∷◌, ◌++◌, [], ℕ, Some, IfOk};
+ghost use Rattle.std.specs.Prelude.{◌≡◌, List, ◌==◌, ◌+◌, ◌≤◌, ◌∷◌, ◌++◌, [], ℕ, Some, IfOk};
 ghost use Rattle.std.specs.Prelude.{MatchResult, cond, map, length, ◌↔◌, IsTrue};
 ghost use Rattle.std.specs.List.{range_with_len, list_all};
 ghost use Rattle.nesl_values.specs.Tree.{sequence, tagged, pair, character};
@@ -166,7 +166,7 @@ pub fn read_truth<A: Allocator>(value: Value<A>) -> Result<bool, Stop>
 
 /// A function of two scalars.
 #[inline(always)]
-pub fn apply_binary<A: Allocator>(
+fn apply_binary<A: Allocator>(
     function: Binary,
     left: &Value<A>,
     right: &Value<A>,
@@ -208,7 +208,7 @@ fn let_go<A: Allocator>(value: Value<A>) {
 }
 
 /// A function of one scalar.
-pub fn apply_unary<A: Allocator>(
+fn apply_unary<A: Allocator>(
     function: Unary,
     argument: &Value<A>,
     span: Span,
@@ -232,7 +232,6 @@ fn on_sequences<A: Allocator + Copy>(
     meter: &mut Meter,
     alloc: A,
 ) -> Result<Value<A>, Stop>
-    requires { meter.old.fuel + meter.old.depth < 2 ^ 64 }
     ensures meets { Meets Is meter.old result meter.new (on_sequence span function
         (argument_tree argument.entry) (outcome_of function (argument_tree argument.entry))) }
     ensures spent { meter.new.fuel + meter.new.depth ≤ meter.old.fuel + meter.old.depth }
@@ -241,12 +240,11 @@ fn on_sequences<A: Allocator + Copy>(
         Ok(plan) => plan,
         Err(trap) => return Err(Stop::Fault(trap, span)),
     };
-    let Some(price) = plan.price(meter.fuel as u128 + 1) else {
+    let Some(price) = plan.price(meter.fuel() as u128 + 1) else {
         return Err(Stop::Over);
     };
     let work = (price.work - 1) as u64;
-    meter.charge(work)?;
-    meter.depth += price.depth - 1;
+    meter.charge_deep(work, price.depth - 1)?;
     match plan.build(alloc) {
         Ok(value) => Ok(value),
         Err(_) => Err(Stop::Memory),
@@ -261,7 +259,6 @@ pub fn apply_builtin<A: Allocator + Copy>(
     meter: &mut Meter,
     alloc: A,
 ) -> Result<Value<A>, Stop>
-    requires { meter.old.fuel + meter.old.depth < 2 ^ 64 }
     ensures meets { Meets Is meter.old result meter.new (apply_builtin span function (argument_tree argument.entry)) }
     ensures spent { meter.new.fuel + meter.new.depth ≤ meter.old.fuel + meter.old.depth }
 {

@@ -1,5 +1,5 @@
 //! An apply-to-each whose body or filter is plain, block by block.
-ghost use Rattle.std.specs.Prelude.{◌≡◌, ◌+◌, ◌-◌, ◌<◌, ◌≤◌, ◌^◌, ◌++◌, Ok, IfSome, MatchOption, IsTrue, cond, map};
+ghost use Rattle.std.specs.Prelude.{◌≡◌, ◌+◌, ◌-◌, ◌<◌, ◌≤◌, ◌++◌, Ok, IfSome, MatchOption, IsTrue, cond, map};
 ghost use Rattle.std.specs.Prelude.{length, take, drop};
 ghost use Rattle.nesl_values.specs.Tree.{boolean};
 ghost use Rattle.nesl_values.specs.View.{tree_of};
@@ -141,8 +141,7 @@ pub fn bodies_in_columns<'x, A: Allocator + Copy, T: Tops<A>>(
     levels: u32,
     meter: &mut Meter,
 ) -> Option<SequenceBuilder<A>>
-    requires room { meter.old.fuel + meter.old.depth < 2 ^ 64 }
-    requires turns { IsWithin whole.now }
+    requires { IsWithin whole.now }
     ensures meets { let w = whole.now in let f = run levels (T.table w.tops.now) in MatchOption result
         (meter.new ≡ meter.old)
         (λ b. Meets Has meter.old (Ok b) meter.new
@@ -156,9 +155,8 @@ pub fn bodies_in_columns<'x, A: Allocator + Copy, T: Tops<A>>(
         builder,
         fuel,
         depth,
-    } = values_within(whole, body, room, levels, meter.fuel)?;
-    meter.fuel = fuel;
-    meter.depth += depth;
+    } = values_within(whole, body, room, levels, meter.fuel())?;
+    meter.leave_deep(fuel, depth);
     Some(builder)
 }
 
@@ -286,8 +284,7 @@ pub fn filters_in_columns<'x, A: Allocator + Copy, T: Tops<A>>(
     levels: u32,
     meter: &mut Meter,
 ) -> Option<Vec<usize, A>>
-    requires room { meter.old.fuel + meter.old.depth < 2 ^ 64 }
-    requires turns { IsWithin whole.now }
+    requires { IsWithin whole.now }
     ensures meets { let w = whole.now in let f = run levels (T.table w.tops.now) in MatchOption result
         (meter.new ≡ meter.old)
         (λ ks. Meets (λ ks is. ks.items ≡ is) meter.old (Ok ks) meter.new
@@ -301,8 +298,7 @@ pub fn filters_in_columns<'x, A: Allocator + Copy, T: Tops<A>>(
         places,
         fuel,
         depth,
-    } = places_within(whole, filter, levels, meter.fuel)?;
-    meter.fuel = fuel;
-    meter.depth += depth;
+    } = places_within(whole, filter, levels, meter.fuel())?;
+    meter.leave_deep(fuel, depth);
     Some(places)
 }

@@ -19,7 +19,7 @@ further xs zero i = let e : i ≡ 0 + i = omega arith in ap (slice_get xs) e
 further [] (suc b) i = refl
 further (x ∷ xs) (suc b) i = let e : suc b + i ≡ suc (b + i) = omega arith in further xs b i ∙ ap (slice_get (x ∷ xs)) (sym e)
 
--- no value is at a place behind them
+-- no value is at a place after them
 pub no_value : {A : Type 0} (xs : List (code.Value A)) (b i : ℕ) → length xs ≤ b + i → value_at (drop b (places_of xs)) i ≡ None
 no_value xs b i h =
     let long : length (places_of xs) ≡ length xs = length-map (map tree_of xs) Some ∙ length-map xs tree_of in

@@ -18,7 +18,7 @@ use Rattle.nesl_eval_rounds.specs.Slots.{places_of}
 pub places_more : {A : Type 0} (xs ys : List (code.Value A)) → places_of (xs ++ ys) ≡ places_of xs ++ places_of ys
 places_more xs ys = ap (map Some) (map-append tree_of xs ys) ∙ map-append Some (map tree_of xs) (map tree_of ys)
 
--- what stands at an index of a row, where something does
+-- what is at an index of a row, where something is
 pub row_element : (vs : List Value) (k i : ℕ) (x : Value) → option_and_then (λ v. slice_get (elements v) k) (slice_get vs i) ≡ Some x → slice_get (row k vs) i ≡ Some (Some x)
 row_element [] k i x e = absurd (cc e)
 row_element (v ∷ vs) k zero x e = ap Some e

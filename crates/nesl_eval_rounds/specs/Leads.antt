@@ -6,7 +6,7 @@ use Rattle.nesl_eval_meaning.specs.Out.{Out, stuck, after_cost}
 use Rattle.nesl_eval_nodes.specs.declared.meter.Stop.{Stop}
 use Rattle.nesl_eval_nodes.specs.declared.meter.Stop.TheVariants.{Fault, Over, Memory, Stuck}
 
--- so much work was taken off the fuel, the outcome is another one after that work, and something holds then
+-- some work was taken off the fuel, the outcome `o` is `p` after that work, and `Then` holds
 pub record Leads (fuel fuel' : ℕ) (o p : Out Value) (Then : Type 0) : Type 0 where
   pub work : ℕ
   pub spent : fuel ≡ fuel' + work

@@ -1,4 +1,4 @@
--- What rounds come to.
+-- What rounds evaluate to.
 use Rattle.std.specs.Prelude.{ℕ, suc, List, [], ◌∷◌, ◌++◌, map, drop, Option, Some, None}
 use Rattle.std.proofs.Common.{Bor}
 use Rattle.std.specs.List.{range_with_len}
@@ -47,14 +47,14 @@ gathered_as t n b env st vs start most None kept made places later =
 abbrev pub all_values : (ℕ → Out Value) → List ℕ → Out (List Value)
 all_values f = all_beside (λ i. and_then (f i) body_value)
 
--- a round's block at a place, and the places that are left after so many turns
+-- a round's block at a place, and the places that are left after a number of turns
 abbrev pub turn_of : {A : Type 0} → Table → ℕ → Places → Round A → ℕ → Out Value
 turn_of t n env r = at_place t n env (map tree_of r.sources.items) (body_block r.block.now)
 
 abbrev pub places_left : {A : Type 0} → Round A → ℕ → List ℕ
 places_left r k = drop k (chosen_places r.chosen)
 
--- what a round comes to between two turns, and in a turn of which this is the outcome
+-- what a round evaluates to between two turns, and in a turn of which this is the outcome
 abbrev pub between : {A : Type 0} → Table → ℕ → Block → Places → List Value → Round A → Out Value
 between t n b env st r =
     gathered_as t n b env st (map tree_of r.sources.items) r.start r.most r.body r.kept.items

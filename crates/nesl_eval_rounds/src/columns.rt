@@ -1,5 +1,5 @@
 //! Turns of a round in columns: a part of the code at a block of places, and then the next part.
-ghost use Rattle.std.specs.Prelude.{◌≡◌, ◌+◌, ◌<◌, ◌≤◌, ◌^◌, ◌∷◌, ◌++◌, List, length, max};
+ghost use Rattle.std.specs.Prelude.{◌≡◌, ◌+◌, ◌≤◌, ◌∷◌, ◌++◌, List, length, max};
 ghost use Rattle.std.specs.Prelude.{Ok, None, IfSome, IsTrue, MatchResult, is_some, true};
 ghost use Rattle.nesl_values.specs.Tree.{ValueTree};
 ghost use Rattle.nesl_values_builder.specs.Elements.{elements_of};
@@ -26,7 +26,7 @@ use nesl_values::Value;
 use nesl_values_builder::SequenceBuilder;
 use std::alloc::Allocator;
 
-/// What turns stand in: the top level, the values of local names, how many levels there are, and an allocator.
+/// What all turns share: the top level, the values of local names, how many levels there are, and an allocator.
 #[derive(Drop)]
 pub struct Setting<'x, A: Allocator, T> {
     pub tops: &'x T,
@@ -35,7 +35,7 @@ pub struct Setting<'x, A: Allocator, T> {
     pub alloc: A,
 }
 
-// Whether frames of these sizes hold so many values.
+// Whether frames of these sizes hold `count` values.
 fn hold(sizes: &[usize], count: usize) -> bool
     ensures { IsTrue result → count ≡ room sizes.now }
 {
@@ -49,7 +49,7 @@ fn hold(sizes: &[usize], count: usize) -> bool
     left == 0
 }
 
-/// The names round the row of these sequences, if there are so many as the sizes of the frames say.
+/// The names round the row of these sequences, if there are as many as the sizes of the frames say.
 pub fn scope_round<'x, A: Allocator>(
     names: &'x [Value<A>],
     sources: &[Value<A>],
@@ -99,7 +99,6 @@ fn places_in_columns<'x, A: Allocator + Copy, T: Tops<A>>(
     filter: Laid<'x>,
     meter: &mut Meter,
 ) -> Option<Vec<usize, A>>
-    requires { meter.old.fuel + meter.old.depth < 2 ^ 64 }
     ensures meets { let t = T.table setting.now.tops.now in let r = round.now in
         body_block r.block.now ≡ flat filter.entry.height filter.entry.sizes.now filter.entry.code.now None
         → IfSome result (λ ks. Meets ArePlaces meter.old (Ok ks) meter.new
@@ -119,7 +118,6 @@ fn values_in_columns<'x, A: Allocator + Copy, T: Tops<A>>(
     body: Laid<'x>,
     meter: &mut Meter,
 ) -> Option<SequenceBuilder<A>>
-    requires { meter.old.fuel + meter.old.depth < 2 ^ 64 }
     ensures meets { let t = T.table setting.now.tops.now in let r = round.now in
         body_block r.block.now ≡ flat body.entry.height body.entry.sizes.now body.entry.code.now None
         → IfSome result (λ b. Meets Has meter.old (Ok b) meter.new
@@ -133,7 +131,7 @@ fn values_in_columns<'x, A: Allocator + Copy, T: Tops<A>>(
 }
 
 impl<'a, A: Allocator + Copy> Round<'a, A> {
-    // All turns are over, the deepest of which was so deep.
+    // All turns are over, the deepest of which had this depth.
     fn end_turns(&mut self, depth: u64)
         ensures { self.new ≡ record self.old {
           turns = length (chosen_places self.old.chosen);
@@ -144,7 +142,7 @@ impl<'a, A: Allocator + Copy> Round<'a, A> {
         self.most = self.most.max(depth);
     }
 
-    /// The places of all turns that a filter had left, the deepest of which was so deep.
+    /// The places of all turns that a filter had left, the deepest of which had this depth.
     pub fn add_places(&mut self, places: &[usize], depth: u64) -> Result<(), Stop>
         ensures { MatchResult result (λ _. (self.new ≡ record self.old {
           kept = self.new.kept;
@@ -161,7 +159,7 @@ impl<'a, A: Allocator + Copy> Round<'a, A> {
         }
     }
 
-    /// The values of all turns that a body had left, the deepest of which was so deep.
+    /// The values of all turns that a body had left, the deepest of which had this depth.
     pub fn add_values(&mut self, values: SequenceBuilder<A>, depth: u64) -> Result<(), Stop>
         ensures { MatchResult result (λ _. (self.new ≡ record self.old {
           values = self.new.values;
@@ -195,14 +193,11 @@ fn take_filter_turns<'a, A: Allocator + Copy, T: Tops<A>>(
         (between t s.levels b (slots.places_of s.names.now) st round.new)) (λ e. e ≡ Stop.Memory) }
     ensures spent { fuel.new ≤ fuel.old }
 {
-    let mut meter = Meter {
-        fuel: *fuel,
-        depth: 0,
-    };
+    let mut meter = Meter::new(*fuel);
     match places_in_columns(setting, &*round, filter, &mut meter) {
         Some(places) => {
-            *fuel = meter.fuel;
-            round.add_places(&places, meter.depth)
+            *fuel = meter.fuel();
+            round.add_places(&places, meter.depth())
         }
         None => Ok(()),
     }
@@ -223,14 +218,11 @@ fn take_body_turns<'a, A: Allocator + Copy, T: Tops<A>>(
         (between t s.levels b (slots.places_of s.names.now) st round.new)) (λ e. e ≡ Stop.Memory) }
     ensures spent { fuel.new ≤ fuel.old }
 {
-    let mut meter = Meter {
-        fuel: *fuel,
-        depth: 0,
-    };
+    let mut meter = Meter::new(*fuel);
     match values_in_columns(setting, &*round, body, &mut meter) {
         Some(values) => {
-            *fuel = meter.fuel;
-            round.add_values(values, meter.depth)
+            *fuel = meter.fuel();
+            round.add_values(values, meter.depth())
         }
         None => Ok(()),
     }

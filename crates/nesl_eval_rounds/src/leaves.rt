@@ -1,5 +1,5 @@
 //! The values of leaves.
-ghost use Rattle.std.specs.Prelude.{◌≡◌, ◌∷◌, [], ◌+◌, ◌<◌, ◌≤◌, ◌^◌, drop, map, slice_get};
+ghost use Rattle.std.specs.Prelude.{◌≡◌, ◌∷◌, [], ◌+◌, ◌≤◌, drop, map, slice_get};
 ghost use Rattle.std.specs.Prelude.{MatchResult, option_and_then, option_map};
 ghost use Rattle.nesl_values.specs.View.{tree_of};
 ghost use Rattle.nesl_eval_meaning.specs.Out.{value, given};
@@ -32,22 +32,20 @@ pub struct Sight<'x, A: Allocator, T> {
     pub alloc: &'x A,
 }
 
-/// Enters a node at this height of a body with so many levels.
+/// Enters a node at this height of a body with `levels` levels.
 #[inline(always)]
 pub fn enter_at(meter: &mut Meter, levels: u32, height: u32, span: Span) -> Result<(), Stop>
-    requires { meter.old.fuel + meter.old.depth < 2 ^ 64 }
     ensures meets { Meets Anything meter.old result meter.new (admitted levels height span) }
     ensures spent { meter.new.fuel + meter.new.depth ≤ meter.old.fuel + meter.old.depth }
 {
     if levels <= height {
         return Err(Stop::Fault(Trap::Deep, span));
     }
-    meter.charge(1)?;
-    meter.depth += 1;
+    meter.charge_deep(1, 1)?;
     Ok(())
 }
 
-// Another owner of a value that has parts, where it is called.
+// Another owner of a value that has parts, by a call that isn't inlined.
 #[inline(always)]
 fn share_apart<A: Allocator>(value: &Value<A>) -> Result<Value<A>, Stop>
     ensures { MatchResult result (λ v. tree_of v ≡ tree_of value.now) (λ e. e ≡ Stop.Memory) }
@@ -75,7 +73,7 @@ fn share_value<A: Allocator>(value: &Value<A>) -> Result<Value<A>, Stop>
     }
 }
 
-// What stands at an index.
+// What is at an index.
 #[inline(always)]
 fn lent_at<'x, A: Allocator>(slots: &'x Vec<Value<A>, A>, index: usize) -> Option<&'x Value<A>>
     ensures { option_map (λ v. tree_of v.now) result ≡ slice_get (map tree_of slots.now.items) index }
@@ -103,7 +101,7 @@ fn whole_local<A: Allocator>(
     }
 }
 
-// What `steps` reach from what stands at a place.
+// What `steps` reach from what is at a place.
 fn lent_part<'x, A: Allocator>(
     slots: &'x Vec<Value<A>, A>,
     base: usize,
@@ -118,7 +116,7 @@ fn lent_part<'x, A: Allocator>(
     part_of(whole, steps)
 }
 
-// What `steps` reach from what stands at a place.
+// What `steps` reach from what is at a place.
 #[inline(always)]
 fn part_at<A: Allocator>(
     slots: &Vec<Value<A>, A>,
@@ -136,7 +134,7 @@ fn part_at<A: Allocator>(
     }
 }
 
-// A part of what stands at a place.
+// A part of what is at a place.
 #[inline(never)]
 fn part_of_local<A: Allocator>(
     slots: &Vec<Value<A>, A>,
@@ -164,7 +162,7 @@ fn left_of_local<A: Allocator>(
     part_at(slots, base, place, &[Step::Left])
 }
 
-// The left part of the pair at a place, where it is called.
+// The left part of the pair at a place, by a call that isn't inlined.
 #[inline(always)]
 fn left_apart<A: Allocator>(
     slots: &Vec<Value<A>, A>,
@@ -192,7 +190,7 @@ fn right_of_local<A: Allocator>(
     part_at(slots, base, place, &[Step::Right])
 }
 
-// The right part of the pair at a place, where it is called.
+// The right part of the pair at a place, by a call that isn't inlined.
 #[inline(always)]
 fn right_apart<A: Allocator>(
     slots: &Vec<Value<A>, A>,
@@ -234,8 +232,8 @@ fn any_leaf_value<A: Allocator + Copy, T: Tops<A>>(
     }
 }
 
-// The value of a leaf that was entered, where it is called. It gets a copy of `sight`, so that the loop's own has no
-// place in memory.
+// The value of a leaf that was entered, by a call that isn't inlined. It gets a copy of `sight`, so that the loop's
+// own needs no place in memory.
 #[inline(always)]
 fn value_apart<A: Allocator + Copy, T: Tops<A>>(
     sight: &Sight<'_, A, T>,
@@ -280,7 +278,6 @@ pub fn enter_leaf<A: Allocator + Copy, T: Tops<A>>(
     leaf: &Leaf,
     meter: &mut Meter,
 ) -> Result<Value<A>, Stop>
-    requires { meter.old.fuel + meter.old.depth < 2 ^ 64 }
     ensures meets { Meets Is meter.old result meter.new (leaf_out (T.table sight.now.tops.now) sight.now.levels height
         (drop sight.now.base (places_of sight.now.slots.now.items)) (leaf_is leaf.now)) }
     ensures spent { meter.new.fuel + meter.new.depth ≤ meter.old.fuel + meter.old.depth }

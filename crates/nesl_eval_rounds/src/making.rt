@@ -1,5 +1,5 @@
 //! What operations make of the values that they take.
-ghost use Rattle.std.specs.Prelude.{◌≡◌, ◌+◌, ◌<◌, ◌≤◌, ◌^◌, [], ◌∷◌, map, IfSome};
+ghost use Rattle.std.specs.Prelude.{◌≡◌, ◌+◌, ◌≤◌, [], ◌∷◌, map, IfSome};
 ghost use Rattle.nesl_values.specs.Tree.{pair, int};
 ghost use Rattle.nesl_values.specs.View.{tree_of};
 ghost use Rattle.nesl_scalars.specs.Outcomes.{gives};
@@ -21,7 +21,7 @@ use nesl_values::Value;
 use std::alloc::Allocator;
 use std::mem;
 
-// Two values stand for a pair, which is not built, only where it has at most 1,048,576 nodes.
+// Two values mean a pair, which is not built, only where it has at most 1,048,576 nodes.
 #[inline(always)]
 fn fit_in_pair<A: Allocator>(left: &Value<A>, right: &Value<A>, span: Span) -> Result<(), Stop>
     ensures { let z = pair (tree_of left.now) (tree_of right.now) in
@@ -42,7 +42,6 @@ pub fn apply_to_value<A: Allocator + Copy>(
     meter: &mut Meter,
     alloc: A,
 ) -> Result<Value<A>, Stop>
-    requires { meter.old.fuel + meter.old.depth < 2 ^ 64 }
     ensures meets { Meets Is meter.old result meter.new
         (apply_builtin node.span node.function (tree_of value)) }
     ensures spent { meter.new.fuel + meter.new.depth ≤ meter.old.fuel + meter.old.depth }
@@ -122,7 +121,7 @@ fn of_scalars<A: Allocator>(
     }
 }
 
-// A function of two scalars, where it is called.
+// A function of two scalars, by a call that isn't inlined.
 #[inline(always)]
 fn scalars_apart<A: Allocator>(
     function: Binary,
@@ -147,7 +146,7 @@ fn any_scalars<A: Allocator>(
     apply_to_leaves(function, left, right, span)
 }
 
-// A built-in function of two values, which stand for a pair.
+// A built-in function of two values, which mean a pair.
 #[inline(always)]
 fn apply_to_both<A: Allocator + Copy>(
     function: Builtin,
@@ -157,7 +156,6 @@ fn apply_to_both<A: Allocator + Copy>(
     meter: &mut Meter,
     alloc: A,
 ) -> Result<Value<A>, Stop>
-    requires { meter.old.fuel + meter.old.depth < 2 ^ 64 }
     ensures meets { Meets Is meter.old result meter.new
         (apply_builtin span function (pair (tree_of left) (tree_of right))) }
     ensures spent { meter.new.fuel + meter.new.depth ≤ meter.old.fuel + meter.old.depth }
@@ -168,7 +166,7 @@ fn apply_to_both<A: Allocator + Copy>(
     }
 }
 
-// A function that is not frequent, where it is called.
+// A function that is not frequent, by a call that isn't inlined.
 #[inline(always)]
 fn both_apart<A: Allocator + Copy>(
     function: Builtin,
@@ -178,7 +176,6 @@ fn both_apart<A: Allocator + Copy>(
     meter: &mut Meter,
     alloc: A,
 ) -> Result<Value<A>, Stop>
-    requires { meter.old.fuel + meter.old.depth < 2 ^ 64 }
     ensures meets { Meets Is meter.old result meter.new
         (apply_builtin span function (pair (tree_of left) (tree_of right))) }
     ensures spent { meter.new.fuel + meter.new.depth ≤ meter.old.fuel + meter.old.depth }
@@ -195,7 +192,6 @@ fn any_of_both<A: Allocator + Copy>(
     meter: &mut Meter,
     alloc: A,
 ) -> Result<Value<A>, Stop>
-    requires { meter.old.fuel + meter.old.depth < 2 ^ 64 }
     ensures meets { Meets Is meter.old result meter.new
         (apply_builtin span function (pair (tree_of left) (tree_of right))) }
     ensures spent { meter.new.fuel + meter.new.depth ≤ meter.old.fuel + meter.old.depth }
@@ -212,7 +208,6 @@ pub fn make_of_two<A: Allocator + Copy>(
     meter: &mut Meter,
     alloc: A,
 ) -> Result<Value<A>, Stop>
-    requires { meter.old.fuel + meter.old.depth < 2 ^ 64 }
     ensures meets { Meets Is meter.old result meter.new
         (made_of node.now.span (two_is node.now.two) (tree_of left ∷ tree_of right ∷ [])) }
     ensures spent { meter.new.fuel + meter.new.depth ≤ meter.old.fuel + meter.old.depth }
@@ -223,7 +218,7 @@ pub fn make_of_two<A: Allocator + Copy>(
     }
 }
 
-// What a node makes of two values, where it is called.
+// What a node makes of two values, by a call that isn't inlined.
 #[inline(always)]
 fn make_apart<A: Allocator + Copy>(
     node: &TwoNode,
@@ -232,7 +227,6 @@ fn make_apart<A: Allocator + Copy>(
     meter: &mut Meter,
     alloc: A,
 ) -> Result<Value<A>, Stop>
-    requires { meter.old.fuel + meter.old.depth < 2 ^ 64 }
     ensures meets { Meets Is meter.old result meter.new
         (made_of node.now.span (two_is node.now.two) (tree_of left ∷ tree_of right ∷ [])) }
     ensures spent { meter.new.fuel + meter.new.depth ≤ meter.old.fuel + meter.old.depth }
@@ -249,7 +243,6 @@ fn make_any_of_two<A: Allocator + Copy>(
     meter: &mut Meter,
     alloc: A,
 ) -> Result<Value<A>, Stop>
-    requires { meter.old.fuel + meter.old.depth < 2 ^ 64 }
     ensures meets { Meets Is meter.old result meter.new
         (made_of node.now.span (two_is node.now.two) (tree_of left ∷ tree_of right ∷ [])) }
     ensures spent { meter.new.fuel + meter.new.depth ≤ meter.old.fuel + meter.old.depth }
@@ -264,7 +257,7 @@ fn make_any_of_two<A: Allocator + Copy>(
     }
 }
 
-// A built-in function of three values, which stand for a pair with a pair in it.
+// A built-in function of three values, which mean a pair with a pair in it.
 fn apply_to_three<A: Allocator + Copy>(
     function: Builtin,
     values: &[Value<A>],
@@ -272,7 +265,6 @@ fn apply_to_three<A: Allocator + Copy>(
     meter: &mut Meter,
     alloc: A,
 ) -> Result<Value<A>, Stop>
-    requires { meter.old.fuel + meter.old.depth < 2 ^ 64 }
     ensures meets { Meets Is meter.old result meter.new
         (made_of span (many_is (Many.OfThree function)) (map tree_of values.now)) }
     ensures spent { meter.new.fuel + meter.new.depth ≤ meter.old.fuel + meter.old.depth }
@@ -306,7 +298,6 @@ pub fn make_of_many<A: Allocator + Copy>(
     meter: &mut Meter,
     alloc: A,
 ) -> Result<Value<A>, Stop>
-    requires { meter.old.fuel + meter.old.depth < 2 ^ 64 }
     ensures meets { Meets Is meter.old result meter.new (made_of span (many_is many) (map tree_of values.items)) }
     ensures spent { meter.new.fuel + meter.new.depth ≤ meter.old.fuel + meter.old.depth }
 {

@@ -1,5 +1,5 @@
 //! What operations make of leaves.
-ghost use Rattle.std.specs.Prelude.{◌≡◌, ◌+◌, ◌<◌, ◌≤◌, ◌^◌, [], ◌∷◌, drop};
+ghost use Rattle.std.specs.Prelude.{◌≡◌, ◌+◌, ◌≤◌, [], ◌∷◌, drop};
 ghost use Rattle.nesl_values.specs.View.{tree_of};
 ghost use Rattle.nesl_eval_code.specs.Block.{of_one};
 ghost use Rattle.nesl_eval_code.specs.Exec.{made_of, with_leaves};
@@ -23,7 +23,6 @@ pub fn of_one_leaf<A: Allocator + Copy, T: Tops<A>>(
     leaf: &Leaf,
     meter: &mut Meter,
 ) -> Result<Value<A>, Stop>
-    requires { meter.old.fuel + meter.old.depth < 2 ^ 64 }
     ensures meets { let s = sight.now in Meets Is meter.old result meter.new
         (with_leaves (T.table s.tops.now) s.levels node.height (drop s.base (places_of s.slots.now.items)) []
         (leaf_is leaf.now ∷ []) (made_of node.span (of_one node.function))) }
@@ -42,7 +41,6 @@ pub fn of_two_leaves<A: Allocator + Copy, T: Tops<A>>(
     right: &Leaf,
     meter: &mut Meter,
 ) -> Result<Value<A>, Stop>
-    requires { meter.old.fuel + meter.old.depth < 2 ^ 64 }
     ensures meets { let s = sight.now in Meets Is meter.old result meter.new
         (with_leaves (T.table s.tops.now) s.levels node.now.height (drop s.base (places_of s.slots.now.items)) []
         (leaf_is left.now ∷ leaf_is right.now ∷ []) (made_of node.now.span (two_is node.now.two))) }
@@ -61,7 +59,6 @@ pub fn of_value_and_leaf<A: Allocator + Copy, T: Tops<A>>(
     right: &Leaf,
     meter: &mut Meter,
 ) -> Result<Value<A>, Stop>
-    requires { meter.old.fuel + meter.old.depth < 2 ^ 64 }
     ensures meets { let s = sight.now in Meets Is meter.old result meter.new
         (with_leaves (T.table s.tops.now) s.levels node.now.height (drop s.base (places_of s.slots.now.items))
         (tree_of value ∷ []) (leaf_is right.now ∷ []) (made_of node.now.span (two_is node.now.two))) }

@@ -95,7 +95,7 @@ pub fn depth_after(start: u64, most: u64, fuel: u64) -> Result<u64, Stop>
 }
 
 impl<'a, A: Allocator + Copy> Round<'a, A> {
-    // One more turn is over, which was so deep.
+    // One more turn is over, which had this depth.
     #[inline(always)]
     fn end_turn(&mut self, depth: u64) -> Result<(), Stop>
         ensures { MatchResult result
@@ -112,7 +112,7 @@ impl<'a, A: Allocator + Copy> Round<'a, A> {
         }
     }
 
-    // Ends a turn of a filter, which came to this value.
+    // Ends a turn of a filter, which evaluated to this value.
     #[inline(always)]
     fn gather_place(&mut self, made: Value<A>, meter: &Meter) -> Result<(), Stop>
         ensures { (t : Table) (n : ℕ) (b : Block) (env : Places) (st : List ValueTree)
@@ -121,10 +121,10 @@ impl<'a, A: Allocator + Copy> Round<'a, A> {
     {
         let holds = read_truth(made)?;
         keep_if(&mut self.kept, self.place, holds)?;
-        self.end_turn(meter.depth)
+        self.end_turn(meter.depth())
     }
 
-    // Ends a turn of a body, which came to this value.
+    // Ends a turn of a body, which evaluated to this value.
     #[inline(always)]
     fn gather_value(&mut self, made: Value<A>, meter: &mut Meter) -> Result<(), Stop>
         ensures gave { (t : Table) (n : ℕ) (b : Block) (env : Places) (st : List ValueTree)
@@ -135,10 +135,10 @@ impl<'a, A: Allocator + Copy> Round<'a, A> {
     {
         let value = pay(made, meter)?;
         add(&mut self.values, value)?;
-        self.end_turn(meter.depth)
+        self.end_turn(meter.depth())
     }
 
-    // Ends a turn, which came to this value.
+    // Ends a turn, which evaluated to this value.
     #[inline(always)]
     fn gather(&mut self, made: Value<A>, meter: &mut Meter) -> Result<(), Stop>
         ensures gave { (t : Table) (n : ℕ) (b : Block) (env : Places) (st : List ValueTree)
@@ -187,7 +187,7 @@ impl<'a, A: Allocator + Copy> Round<'a, A> {
     }
 }
 
-/// Ends a turn, which came to this value.
+/// Ends a turn, which evaluated to this value.
 #[inline(always)]
 pub fn gather<'a, A: Allocator + Copy>(
     round: &mut Box<Round<'a, A>, A>,

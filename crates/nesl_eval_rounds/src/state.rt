@@ -5,7 +5,7 @@ use nesl_values::Value;
 use nesl_values_builder::SequenceBuilder;
 use std::alloc::Allocator;
 
-/// The places at which a round of an apply-to-each has its turns: all of so many, or those that a filter kept.
+/// The places at which a round of an apply-to-each has its turns: all of a number, or those that a filter kept.
 #[derive(Drop)]
 pub enum Chosen<A: Allocator> {
     All(usize),

@@ -1,5 +1,5 @@
 //! Evaluates turns of an interval in columns.
-ghost use Rattle.std.specs.Prelude.{◌≡◌, ◌+◌, ◌<◌, ◌≤◌, ◌^◌, Ok, MatchOption};
+ghost use Rattle.std.specs.Prelude.{◌≡◌, ◌+◌, ◌≤◌, Ok, MatchOption};
 ghost use Rattle.nesl_eval_nodes.specs.Meets.{Meets};
 ghost use Rattle.nesl_split.specs.Finding.{Are};
 ghost use Rattle.nesl_split.specs.Intervals.{AreIn, found_in};
@@ -31,8 +31,7 @@ pub(crate) fn find_by_columns<R, H, G, T: Tops<Global>>(
     turns: Turns,
     meter: &mut Meter,
 ) -> Option<Found>
-    requires room { meter.old.fuel + meter.old.depth < 2 ^ 64 }
-    requires turns { AreIn turns interval.now }
+    requires { AreIn turns interval.now }
     ensures meets { MatchOption result (meter.new ≡ meter.old)
         (λ f. Meets (Are interval.now.wanted) meter.old (Ok f) meter.new (found_in T.table interval.now turns)) }
     ensures spent { meter.new.fuel + meter.new.depth ≤ meter.old.fuel + meter.old.depth }

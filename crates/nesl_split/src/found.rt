@@ -1,5 +1,5 @@
 //! The results of turns.
-ghost use Rattle.std.specs.Prelude.{◌≡◌, ℕ, ◌+◌, ◌<◌, ◌≤◌, ◌^◌, ◌++◌, [], List};
+ghost use Rattle.std.specs.Prelude.{◌≡◌, ℕ, ◌+◌, ◌≤◌, ◌++◌, [], List};
 ghost use Rattle.nesl_values.specs.Tree.{ValueTree};
 ghost use Rattle.nesl_values.specs.View.{tree_of};
 ghost use Rattle.nesl_values_builder.specs.Elements.{elements_of};
@@ -141,7 +141,6 @@ pub(crate) fn join_found(
     right: Half<Found>,
     meter: &mut Meter,
 ) -> Result<Found, Stop>
-    requires room { meter.old.fuel + meter.old.depth < 2 ^ 64 }
     requires left { IsWithin meter.old left.cost }
     requires right { IsWithin meter.old right.cost }
     ensures meets { (o p : Out (List (Element wanted)))

@@ -1,5 +1,5 @@
 //! A machine that evaluates its rounds in halves.
-ghost use Rattle.std.specs.Prelude.{◌≡◌, ◌+◌, ◌<◌, ◌≤◌, ◌^◌, List, IfSome};
+ghost use Rattle.std.specs.Prelude.{◌≡◌, ◌+◌, ◌≤◌, List, IfSome};
 ghost use Rattle.nesl_values.specs.Tree.{ValueTree};
 ghost use Rattle.nesl_eval_code.specs.Block.{Block};
 ghost use Rattle.nesl_eval_ops.specs.View.{block_of};
@@ -38,7 +38,6 @@ pub(crate) fn make_moves<
     cuts: u32,
     crew: &Crew<'_, R, H, G, T>,
 ) -> Result<Value<Global>, Stop>
-    requires { machine.old.meter.fuel + machine.old.meter.depth < 2 ^ 64 }
     ensures { let t = T.table crew.now.tops.now in Fits t machine.old
         → Ran machine.old result machine.new (left t machine.old) }
 {
@@ -66,10 +65,8 @@ fn move_in_halves<'a, R: Threads + Sync, H: Helpers + Sync, G: Gate + Sync, T: T
     cuts: u32,
     crew: &Crew<'_, R, H, G, T>,
 ) -> Result<Hand<'a, Global>, Stop>
-    requires room { machine.old.meter.fuel + machine.old.meter.depth < 2 ^ 64 }
-    ensures moves { let t = T.table crew.now.tops.now in Fits t machine.old
+    ensures { let t = T.table crew.now.tops.now in Fits t machine.old
         → Moves t machine.old result machine.new (left_at_hand t machine.old hand.entry) }
-    ensures bounded { machine.new.meter.fuel + machine.new.meter.depth < 2 ^ 64 }
 {
     match reach(machine, hand)? {
         Reached::Round(round, next) => {
@@ -96,14 +93,12 @@ fn go_round_in_halves<
     cuts: u32,
     crew: &Crew<'_, R, H, G, T>,
 ) -> Result<(), Stop>
-    requires { machine.old.meter.fuel < 2 ^ 64 }
-    ensures steps { let t = T.table crew.now.tops.now in let m = machine.old in Fits t m
+    ensures { let t = T.table crew.now.tops.now in let m = machine.old in Fits t m
         → Steps t m result machine.new (block_of machine.new.code.now)
         (unwound t (frames_of m) (slots_of m) (stack_of m)
         (between t m.levels (block_of next.now) (env_of m) (local_of m) round.entry.value)) }
-    ensures bounded { machine.new.meter.fuel + machine.new.meter.depth < 2 ^ 64 }
 {
-    machine.meter.depth = 0;
+    machine.meter.restart();
     rounds_in_halves(machine, &mut round, cuts, crew)?;
     machine.go_on_with_round(round, next)
 }
@@ -122,7 +117,6 @@ fn rounds_in_halves<
     cuts: u32,
     crew: &Crew<'_, R, H, G, T>,
 ) -> Result<(), Stop>
-    requires { machine.old.meter.fuel < 2 ^ 64 }
     ensures came { let t = T.table crew.now.tops.now in let m = machine.old in (b : Block) (st : List ValueTree)
         → HasBodies t m.bodies.now → Came m.meter.fuel result machine.new.meter.fuel
         (between t m.levels b (env_of m) st round.old.value) (between t m.levels b (env_of m) st round.new.value) }
@@ -131,7 +125,7 @@ fn rounds_in_halves<
     ensures depth { machine.new.meter.depth ≤ machine.old.meter.depth }
 {
     turns_in_halves(machine, round, cuts, crew)?;
-    if !advance_to_body(round, machine.meter.fuel, machine.alloc)? {
+    if !advance_to_body(round, machine.meter.fuel(), machine.alloc)? {
         return Ok(());
     }
     turns_in_halves(machine, round, cuts, crew)
@@ -141,7 +135,7 @@ fn rounds_in_halves<
 fn end_timed_unless_inside<H: Helpers>(machine: &Machine<'_, Global>, helpers: &H) {
     if let Some(height) = helpers.timed_at() {
         if !waits_for_turn(&machine.frames, height) {
-            helpers.end_timed(machine.meter.fuel);
+            helpers.end_timed(machine.meter.fuel());
         }
     }
 }
@@ -161,7 +155,7 @@ fn ask_at<R, H: Helpers, G, T: Tops<Global>>(
     let (room, _) = begin_turns(machine);
     let whole = interval_of(&room, round, crew);
     let moment = Moment {
-        fuel: machine.meter.fuel,
+        fuel: machine.meter.fuel(),
         height: machine.frames.len(),
         taken: round.turns,
     };
@@ -182,7 +176,6 @@ fn turns_in_halves<
     cuts: u32,
     crew: &Crew<'_, R, H, G, T>,
 ) -> Result<(), Stop>
-    requires { machine.old.meter.fuel < 2 ^ 64 }
     ensures came { let t = T.table crew.now.tops.now in let m = machine.old in (b : Block) (st : List ValueTree)
         → HasBodies t m.bodies.now → Came m.meter.fuel result machine.new.meter.fuel
         (between t m.levels b (env_of m) st round.old.value) (between t m.levels b (env_of m) st round.new.value) }
@@ -196,6 +189,6 @@ fn turns_in_halves<
     let (room, mut meter) = begin_turns(machine);
     let whole = interval_of(&room, &**round, &*crew);
     let found = find_in_halves(&whole, turns_left(&**round), grant, &mut meter);
-    machine.meter.fuel = meter.fuel;
+    machine.meter.leave(meter.fuel());
     end_turns(&mut **round, found, meter)
 }

@@ -1,5 +1,5 @@
 //! Evaluates turns of an interval in halves.
-ghost use Rattle.std.specs.Prelude.{◌≡◌, ◌+◌, ◌<◌, ◌≤◌, ◌^◌};
+ghost use Rattle.std.specs.Prelude.{◌≡◌, ◌+◌, ◌≤◌};
 ghost use Rattle.std.specs.Thread.{IsSync};
 ghost use Rattle.nesl_eval_meaning.specs.Out.{and_then};
 ghost use Rattle.nesl_eval_nodes.specs.Meets.{Meets};
@@ -31,13 +31,12 @@ fn find_one_by_one<R: Threads + Sync, H: Helpers + Sync, G: Gate + Sync, T: Tops
     cuts: u32,
     meter: &mut Meter,
 ) -> Result<Found, Stop>
-    requires room { meter.old.fuel + meter.old.depth < 2 ^ 64 }
-    requires turns { AreIn turns interval.now }
+    requires { AreIn turns interval.now }
     ensures meets { HasBodies (T.table interval.now.crew.now.tops.now) interval.now.room.now.bodies.now
         → Meets (Are interval.now.wanted) meter.old result meter.new (found_in T.table interval.now turns) }
     ensures spent { meter.new.fuel + meter.new.depth ≤ meter.old.fuel + meter.old.depth }
 {
-    let start = meter.depth;
+    let start = meter.depth();
     let mut most = 0;
     let room = room_for(interval, turns);
     let mut found = Found::new(interval.wanted, room, interval.crew.alloc);
@@ -45,11 +44,11 @@ fn find_one_by_one<R: Threads + Sync, H: Helpers + Sync, G: Gate + Sync, T: Tops
     let Turns { from, to } = turns;
     for turn in from..to {
         let place = interval.places.at(turn);
-        meter.depth = 0;
+        meter.restart();
         take_turn(interval, &mut machine, place, cuts, &mut found, meter)?;
         most = meter.deepest(most);
     }
-    meter.depth = start + most;
+    meter.set_depth(start + most);
     Ok(found)
 }
 
@@ -63,7 +62,6 @@ fn take_turn<'a, R: Threads + Sync, H: Helpers + Sync, G: Gate + Sync, T: Tops<G
     so_far: &mut Found,
     meter: &mut Meter,
 ) -> Result<(), Stop>
-    requires { meter.old.fuel + meter.old.depth < 2 ^ 64 }
     ensures kind { kind_of so_far.new ≡ kind_of so_far.old }
     ensures meets { let w = interval.now.wanted in
         HasBodies (T.table interval.now.crew.now.tops.now) interval.now.room.now.bodies.now → IsOf w so_far.old
@@ -84,8 +82,7 @@ fn find_in_order<R: Threads + Sync, H: Helpers + Sync, G: Gate + Sync, T: Tops<G
     cuts: u32,
     meter: &mut Meter,
 ) -> Result<Found, Stop>
-    requires room { meter.old.fuel + meter.old.depth < 2 ^ 64 }
-    requires turns { AreIn turns interval.now }
+    requires { AreIn turns interval.now }
     ensures meets { HasBodies (T.table interval.now.crew.now.tops.now) interval.now.room.now.bodies.now
         → Meets (Are interval.now.wanted) meter.old result meter.new (found_in T.table interval.now turns) }
     ensures spent { meter.new.fuel + meter.new.depth ≤ meter.old.fuel + meter.old.depth }
@@ -105,14 +102,13 @@ fn find<R: Threads + Sync, H: Helpers + Sync, G: Gate + Sync, T: Tops<Global> + 
     cuts: u32,
     meter: &mut Meter,
 ) -> Result<Found, Stop>
-    requires room { meter.old.fuel + meter.old.depth < 2 ^ 64 }
-    requires turns { AreIn turns interval.now }
+    requires { AreIn turns interval.now }
     ensures meets { HasBodies (T.table interval.now.crew.now.tops.now) interval.now.room.now.bodies.now
         → Meets (Are interval.now.wanted) meter.old result meter.new (found_in T.table interval.now turns) }
     ensures spent { meter.new.fuel + meter.new.depth ≤ meter.old.fuel + meter.old.depth }
 {
     let moment = Moment {
-        fuel: meter.fuel,
+        fuel: meter.fuel(),
         height: 0,
         taken: 0,
     };
@@ -135,14 +131,13 @@ pub(crate) fn find_in_halves<
     grant: Grant<H::Permit>,
     meter: &mut Meter,
 ) -> Result<Found, Stop>
-    requires room { meter.old.fuel + meter.old.depth < 2 ^ 64 }
-    requires turns { AreIn turns interval.now }
+    requires { AreIn turns interval.now }
     ensures meets { HasBodies (T.table interval.now.crew.now.tops.now) interval.now.room.now.bodies.now
         → Meets (Are interval.now.wanted) meter.old result meter.new (found_in T.table interval.now turns) }
     ensures spent { meter.new.fuel + meter.new.depth ≤ meter.old.fuel + meter.old.depth }
 {
     let Grant { permit, cuts } = grant;
-    let fuel = meter.fuel;
+    let fuel = meter.fuel();
     let half = |interval: &Interval<'_, R, H, G, T>, from: usize, to: usize| -> Half<Found>
         requires { IsSync R.row × IsSync H.row × IsSync G.row × IsSync T.row
             × AreIn (record { from = from; to = to }) interval.now }

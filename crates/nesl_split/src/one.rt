@@ -76,6 +76,6 @@ pub fn eval_split<R: Threads + Sync, H: Helpers + Sync, G: Gate + Sync>(
     };
     helpers.begin();
     let (found, meter) = evaluate_in_halves(top_level.bodies(), &ops, levels, fuel, CUTS, &crew);
-    helpers.end(meter.fuel);
+    helpers.end(meter.fuel());
     outcome_of(found, fuel, meter)
 }

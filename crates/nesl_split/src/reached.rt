@@ -1,5 +1,5 @@
 //! Moves a machine to a round, where its turns may be cut.
-ghost use Rattle.std.specs.Prelude.{◌≡◌, ◌+◌, ◌<◌, ◌^◌, ◌++◌, ◌∷◌, [], map};
+ghost use Rattle.std.specs.Prelude.{◌≡◌, ◌+◌, ◌++◌, ◌∷◌, [], map};
 ghost use Rattle.std.specs.declared.vec.Vec.{Vec};
 ghost use Rattle.nesl_values.specs.View.{tree_of};
 ghost use Rattle.nesl_eval_meaning.specs.Out.{and_then, given};
@@ -69,7 +69,7 @@ fn may_be_cut_after_turn<H: Helpers>(machine: &Machine<'_, Global>, helpers: &H)
                 return round.body.is_some();
             }
             left > 2
-                && helpers.asks_again(machine.meter.fuel, machine.frames.len().saturating_sub(1))
+                && helpers.asks_again(machine.meter.fuel(), machine.frames.len().saturating_sub(1))
         }
         None => false,
     }
@@ -105,10 +105,8 @@ pub(crate) fn reach<'a>(
     machine: &mut Machine<'a, Global>,
     hand: Hand<'a, Global>,
 ) -> Result<Reached<'a>, Stop>
-    requires { machine.old.meter.fuel + machine.old.meter.depth < 2 ^ 64 }
-    ensures reaches { (t : Table) → Fits t machine.old
+    ensures { (t : Table) → Fits t machine.old
         → Reaches t machine.old result machine.new (left_at_hand t machine.old hand.entry) }
-    ensures bounded { machine.new.meter.fuel + machine.new.meter.depth < 2 ^ 64 }
 {
     match hand {
         Hand::Empty => reach_round(machine),
@@ -123,10 +121,8 @@ fn set_down<'a>(
     value: Value<Global>,
     next: &'a Ops,
 ) -> Result<Reached<'a>, Stop>
-    requires { machine.old.meter.fuel + machine.old.meter.depth < 2 ^ 64 }
-    ensures reaches { (t : Table) → let m = machine.old in Fits t m → Reaches t m result machine.new
+    ensures { (t : Table) → let m = machine.old in Fits t m → Reaches t m result machine.new
         (left_at_hand t m (Hand.Holds value next.entry)) }
-    ensures bounded { machine.new.meter.fuel + machine.new.meter.depth < 2 ^ 64 }
 {
     keep(&mut machine.stack, value)?;
     machine.code = next;
@@ -135,10 +131,8 @@ fn set_down<'a>(
 
 // Returns the round of an apply-to-each, or of a turn that ends, if one is next. Otherwise the machine is unchanged.
 fn reach_round<'a>(machine: &mut Machine<'a, Global>) -> Result<Reached<'a>, Stop>
-    requires { machine.old.meter.fuel + machine.old.meter.depth < 2 ^ 64 }
-    ensures reaches { (t : Table) → Fits t machine.old
+    ensures { (t : Table) → Fits t machine.old
         → Reaches t machine.old result machine.new (left t machine.old) }
-    ensures bounded { machine.new.meter.fuel + machine.new.meter.depth < 2 ^ 64 }
 {
     match machine.code {
         Ops::Each {
@@ -179,12 +173,10 @@ fn reach_round<'a>(machine: &mut Machine<'a, Global>) -> Result<Reached<'a>, Sto
 
 // Begins an apply-to-each, whose sequences are on the stack.
 fn begin_each<'a>(machine: &mut Machine<'a, Global>, parts: &Parts<'a>) -> Result<Reached<'a>, Stop>
-    requires { machine.old.meter.fuel + machine.old.meter.depth < 2 ^ 64 }
-    ensures reaches { (t : Table) → let m = machine.old in Fits t m → Reaches t m result machine.new (left_with t m
+    ensures { (t : Table) → let m = machine.old in Fits t m → Reaches t m result machine.new (left_with t m
         (given (taken parts.now.count (local_of m) []) (λ p. and_then (at_places parts.now.span p.0
         (in_rounds t m.levels (env_of m) p.0 (body_block parts.now.block.now) parts.now.body))
         (λ v. exec t m.levels (env_of m) (block_of parts.now.next.now) (v ∷ p.1))))) }
-    ensures bounded { machine.new.meter.fuel + machine.new.meter.depth < 2 ^ 64 }
 {
     let Some(values) = take_off(&mut machine.stack, parts.count)? else {
         return Err(Stop::Stuck);
@@ -195,10 +187,8 @@ fn begin_each<'a>(machine: &mut Machine<'a, Global>, parts: &Parts<'a>) -> Resul
 
 // Ends a turn, whose value is on the stack.
 fn end_turn<'a>(machine: &mut Machine<'a, Global>) -> Result<Reached<'a>, Stop>
-    requires { machine.old.meter.fuel + machine.old.meter.depth < 2 ^ 64 }
-    ensures reaches { (t : Table) → Fits t machine.old
+    ensures { (t : Table) → Fits t machine.old
         → Reaches t machine.old result machine.new (left_at t machine.old finish) }
-    ensures bounded { machine.new.meter.fuel + machine.new.meter.depth < 2 ^ 64 }
 {
     match machine.frames.pop() {
         Some(frame) => leave_turn(machine, frame),
@@ -211,12 +201,10 @@ fn leave_turn<'a>(
     machine: &mut Machine<'a, Global>,
     frame: Frame<'a, Global>,
 ) -> Result<Reached<'a>, Stop>
-    requires { machine.old.meter.fuel + machine.old.meter.depth < 2 ^ 64 }
-    ensures reaches { (t : Table) (before : Vec (Frame Global) Global)
+    ensures { (t : Table) (before : Vec (Frame Global) Global)
         → let m = record machine.old { frames = before } in
         before.items ≡ machine.old.frames.items ++ frame.entry ∷ [] → Fits t m
         → Reaches t m result machine.new (left_at t m finish) }
-    ensures bounded { machine.new.meter.fuel + machine.new.meter.depth < 2 ^ 64 }
 {
     let Frame {
         next,

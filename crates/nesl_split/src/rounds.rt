@@ -34,7 +34,7 @@ pub(crate) fn begin_turns<'m>(machine: &'m Machine<'_, Global>) -> (Room<'m>, Me
         names: &machine.slots[base..],
         levels: machine.levels,
     };
-    (room, begin_meter(machine.meter.fuel))
+    (room, begin_meter(machine.meter.fuel()))
 }
 
 /// The remaining turns of a round.
@@ -95,8 +95,8 @@ pub(crate) fn end_turns(
         → Came m.fuel result meter.fuel (between t n b env st r) (between t n b env st round.new) }
 {
     match found? {
-        Found::Places(places) => round.add_places(&places, meter.depth),
-        Found::Values(values) => round.add_values(values, meter.depth),
+        Found::Places(places) => round.add_places(&places, meter.depth()),
+        Found::Values(values) => round.add_values(values, meter.depth()),
     }
 }
 

@@ -48,11 +48,11 @@ pub fn evaluate_in_halves<
         frames: Vec::new(alloc),
         base: 0,
         levels,
-        meter: Meter { fuel, depth: 0 },
+        meter: Meter::new(fuel),
         alloc,
     };
     let found = make_moves(&mut machine, cuts, crew);
-    let mut meter = Meter { fuel, depth: 0 };
+    let mut meter = Meter::new(fuel);
     let settled = settle(&machine, found, &mut meter);
     (settled, meter)
 }

@@ -1,5 +1,5 @@
 //! Turns of an apply-to-each, and their environment.
-ghost use Rattle.std.specs.Prelude.{◌≡◌, ◌+◌, ◌-◌, ◌<◌, ◌≤◌, ◌^◌, ◌++◌, map, MatchResult};
+ghost use Rattle.std.specs.Prelude.{◌≡◌, ◌+◌, ◌-◌, ◌≤◌, ◌++◌, map, MatchResult};
 ghost use Rattle.nesl_values.specs.Tree.{ValueTree};
 ghost use Rattle.nesl_values.specs.View.{tree_of};
 ghost use Rattle.nesl_eval_meaning.specs.Out.{Out, after_cost, and_then};
@@ -91,7 +91,7 @@ pub(crate) fn idle_machine<'a, R, H, G, T>(
         frames: Vec::new(alloc),
         base: 0,
         levels: interval.room.levels,
-        meter: Meter { fuel: 0, depth: 0 },
+        meter: Meter::new(0),
         alloc,
     }
 }
@@ -138,14 +138,13 @@ pub(crate) fn settle(
     found: Result<Value<Global>, Stop>,
     meter: &mut Meter,
 ) -> Result<Value<Global>, Stop>
-    requires { meter.old.fuel + meter.old.depth < 2 ^ 64 }
     ensures meets { (m : Machine Global) (o : Out ValueTree) → m.meter ≡ meter.old
         → Ran m found machine.now (after_cost 0 m.meter.depth o) → Meets Is meter.old result meter.new o }
     ensures spent { meter.new.fuel + meter.new.depth ≤ meter.old.fuel + meter.old.depth }
 {
-    let before = meter.fuel + meter.depth;
+    let before = meter.fuel() + meter.depth();
     let ended = machine.meter;
-    if ended.fuel > before || ended.depth > before - ended.fuel {
+    if ended.fuel() > before || ended.depth() > before - ended.fuel() {
         return Err(Stop::Memory);
     }
     *meter = ended;
@@ -160,7 +159,6 @@ pub(crate) fn end_turn(
     so_far: &mut Found,
     meter: &mut Meter,
 ) -> Result<(), Stop>
-    requires { meter.old.fuel + meter.old.depth < 2 ^ 64 }
     ensures kind { kind_of so_far.new ≡ kind_of so_far.old }
     ensures meets { (w : Wanted) (m : Machine Global) (o : Out ValueTree) → IsOf w so_far.old → m.meter ≡ meter.old
         → Ran m found machine.now (after_cost 0 m.meter.depth o)

@@ -1,4 +1,4 @@
-use Rattle.std.proofs.Common.{◌≡◌, ℕ, ◌+◌, ◌*◌, ◌<◌, ◌^◌, ◌≤◌, ◌⊎◌}
+use Rattle.std.proofs.Common.{◌≡◌, ℕ, ◌+◌, ◌*◌, ◌≤◌, ◌⊎◌}
 use Rattle.std.specs.Prelude.{slice_range}
 use Rattle.nesl_eval_meaning.specs.Out.{stuck, and_then, all_beside}
 use Rattle.nesl_eval_nodes.specs.Sides.{places_of}
@@ -49,10 +49,7 @@ decreases-intervals::find_in_halves g l = l.grant.cuts * 20 + 12
 abbrev pub invariant-halves::make_moves-loop : goal.invariant-halves::make_moves-loop
 invariant-halves::make_moves-loop g l =
     let t = g.T.Tops.table l.crew.tops.now in
-    record {
-      bounded : l.machine.meter.fuel + l.machine.meter.depth < 2 ^ 64;
-      so_far : Fits t l.fn.machine → (left t l.fn.machine ≡ stuck) ⊎ Leads l.fn.machine.meter.fuel l.machine.meter.fuel (left t l.fn.machine) (left_at_hand t l.machine l.hand) (Fits t l.machine);
-    }
+    Fits t l.fn.machine → (left t l.fn.machine ≡ stuck) ⊎ Leads l.fn.machine.meter.fuel l.machine.meter.fuel (left t l.fn.machine) (left_at_hand t l.machine l.hand) (Fits t l.machine)
 
 abbrev pub invariant-intervals::find_one_by_one-loop-turn : goal.invariant-intervals::find_one_by_one-loop-turn
 invariant-intervals::find_one_by_one-loop-turn g l =

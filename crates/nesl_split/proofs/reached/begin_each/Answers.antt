@@ -13,14 +13,14 @@ use Rattle.nesl_split.specs.declared.reached.Reached.TheVariants.{Round}
 use Rattle.nesl_split.proofs.Reaching.{many_reach, first_reached}
 use Rattle.nesl_split.proofs.reached.begin_each.Goals as goal
 
-pub returns-in_err-values-clause-reaches : goal.returns-in_err-values-clause-reaches
-returns-in_err-values-clause-reaches c = λ t fits.
+pub returns-in_err-values : goal.returns-in_err-values
+returns-in_err-values c = λ t fits.
     let m = c.args.machine.now in
     let p = err_from_is_err_and c.from_residual.result c.from_residual.ensures.1 in
     rw (p.1, p.2, c.in_err-values.ensures) (memory_any (frames_of m) m.meter.fuel m.meter.fuel _)
 
-pub returns-in_default-clause-reaches : goal.returns-in_default-clause-reaches
-returns-in_default-clause-reaches c = λ t fits.
+pub returns-in_default : goal.returns-in_default
+returns-in_default c = λ t fits.
     let m = c.args.machine.now in
     let a = c.args.parts.now in
     let s = c.take_off.new.stack in
@@ -29,8 +29,8 @@ returns-in_default-clause-reaches c = λ t fits.
     let fewer = subst (λ r. TakesOff m.stack.items s.items a.count (Ok r)) c.in_default.is c.in_ok-values.ensures in
     few_taken {U = Unit {0}} t m (record m { stack = s }) (block_of m.code.now) (Err Stuck) a.count f fewer
 
-pub returns-in_err-round-clause-reaches : goal.returns-in_err-round-clause-reaches
-returns-in_err-round-clause-reaches c = λ t fits.
+pub returns-in_err-round : goal.returns-in_err-round
+returns-in_err-round c = λ t fits.
     let m = c.args.machine.now in
     let a = c.args.parts.now in
     let s = c.take_off.new.stack in
@@ -40,8 +40,8 @@ returns-in_err-round-clause-reaches c = λ t fits.
     let p = err_from_is_err_and c.from_residual-in_err-round.result c.from_residual-in_err-round.ensures.1 in
     rw (p.1, p.2) (many_reach t m (record m { stack = s }) s c.in-Some.values.items (Err c.in_err-round.field-0.0) a.count f off.0 off.1 fits (λ h. c.in_err-round.ensures t (block_of a.next.now)))
 
-pub returns-clause-reaches : goal.returns-clause-reaches
-returns-clause-reaches c = λ t fits.
+pub returns : goal.returns
+returns c = λ t fits.
     let m = c.args.machine.now in
     let a = c.args.parts.now in
     let s = c.take_off.new.stack in

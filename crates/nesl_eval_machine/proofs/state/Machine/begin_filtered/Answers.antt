@@ -9,8 +9,8 @@ use Rattle.nesl_eval_machine.specs.Steps.{TakesOff}
 use Rattle.nesl_eval_machine.proofs.Taking.{many_taken, few_taken}
 use Rattle.nesl_eval_machine.proofs.state.Machine.begin_filtered.Goals as goal
 
-pub returns-in-Some-clause-steps : goal.returns-in-Some-clause-steps
-returns-in-Some-clause-steps g c = λ fits.
+pub returns-in-Some : goal.returns-in-Some
+returns-in-Some g c = λ fits.
     let t = g.T.Tops.table c.args.tops.now in
     let m = c.args.self.now in
     let n = c.begin.new.self in
@@ -18,10 +18,10 @@ returns-in-Some-clause-steps g c = λ fits.
     let f : List Value × List Value → Out Value =
     λ p. and_then (at_places c.args.node.span p.0 (in_rounds t m.levels (env_of m) p.0 (body_block c.args.filter.now) (Some c.args.body))) (λ v. exec t m.levels (env_of m) (block_of c.args.next.now) (v ∷ p.1)) in
     let taken = subst (λ r. TakesOff m.stack.items s.items c.args.node.count (Ok r)) c.in-Some.is c.in_ok-sources.ensures in
-    many_taken t m n (block_of n.code.now) s c.in-Some.sources.items c.begin.result c.args.node.count f taken.0 taken.1 fits (λ h. c.begin.ensures.steps h)
+    many_taken t m n (block_of n.code.now) s c.in-Some.sources.items c.begin.result c.args.node.count f taken.0 taken.1 fits (λ h. c.begin.ensures h)
 
-pub returns-in-None-clause-steps : goal.returns-in-None-clause-steps
-returns-in-None-clause-steps g c = λ fits.
+pub returns-in-None : goal.returns-in-None
+returns-in-None g c = λ fits.
     let t = g.T.Tops.table c.args.tops.now in
     let m = c.args.self.now in
     let s = c.take_off.new.stack in

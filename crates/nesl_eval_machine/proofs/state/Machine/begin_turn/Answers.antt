@@ -14,20 +14,20 @@ use Rattle.nesl_eval_machine.proofs.Entering.{entered_block, places_long}
 use Rattle.nesl_eval_rounds.proofs.Gathering.{turn_next}
 use Rattle.nesl_eval_machine.proofs.state.Machine.begin_turn.Goals as goal
 
-pub returns-in_err-push_row-clause-steps : goal.returns-in_err-push_row-clause-steps
-returns-in_err-push_row-clause-steps g c = λ t fits there.
+pub returns-in_err-push_row : goal.returns-in_err-push_row
+returns-in_err-push_row g c = λ t fits there.
     let m = c.args.self.now in
     let p = err_from_is_err_and c.from_residual.result c.from_residual.ensures.1 in
-    rw (p.1, p.2, c.in_err-push_row.ensures) (memory_any (frames_of m) m.meter.fuel m.meter.fuel _)
+    rw (p.1, p.2, c.in_err-push_row.ensures) (memory_any (frames_of m) m.meter.fuel c.restart.new.self.fuel _)
 
-pub returns-in_err-keep_frame-clause-steps : goal.returns-in_err-keep_frame-clause-steps
-returns-in_err-keep_frame-clause-steps g c = λ t fits there.
+pub returns-in_err-keep_frame : goal.returns-in_err-keep_frame
+returns-in_err-keep_frame g c = λ t fits there.
     let m = c.args.self.now in
     let p = err_from_is_err_and c.from_residual-in_err-keep_frame.result c.from_residual-in_err-keep_frame.ensures.1 in
-    rw (p.1, p.2, c.in_err-keep_frame.ensures) (memory_any (frames_of (record m { frames = c.keep_frame.new.frames })) m.meter.fuel m.meter.fuel _)
+    rw (p.1, p.2, c.in_err-keep_frame.ensures) (memory_any (frames_of (record m { frames = c.keep_frame.new.frames })) m.meter.fuel c.restart.new.self.fuel _)
 
-pub returns-clause-steps : goal.returns-clause-steps
-returns-clause-steps g c = λ t fits there.
+pub returns : goal.returns
+returns g c = λ t fits there.
     let m = c.args.self.now in
     let r = c.args.round.value in
     let b = block_of c.args.next.now in
@@ -41,10 +41,10 @@ returns-clause-steps g c = λ t fits there.
     let w = c.deref-3.result.now in
     let same : w ≡ _ = c.deref-3.ensures ∙ c.put_at.ensures in
     let code = block_of c.ops-code.result.now in
-    inr (entered_block t m _ c.keep_frame.new.frames code slots more m.base m.levels (record { fuel = m.meter.fuel; depth = 0 })
+    rw c.restart.ensures (inr (entered_block t m _ c.keep_frame.new.frames code slots more m.base m.levels (record { fuel = m.meter.fuel; depth = 0 })
     (between t m.levels b (env_of m) (local_of m) r)
     c.in_ok-keep_frame.ensures (omega (arith, c.len-len.ensures, m.slots.ok.0)) (omega (arith, c.len.ensures, m.stack.ok.0)) fits.2 grown (omega (arith, fits.2, longer)) refl fits
     (turn_next t m.levels b (env_of m) (local_of m) r c.put_at.new.round.value c.args.place _ there c.put_at.ensures
     (after_none (exec t m.levels (drop m.base (places_of slots.items)) code []) ∙ ap (λ e. exec t m.levels e code []) env
     ∙ ap (λ b. exec t m.levels (env_of m ++ more) b []) c.ops-code.ensures
-    ∙ ap (λ x. exec t m.levels (env_of m ++ more) (body_block x.block.now) []) same)))
+    ∙ ap (λ x. exec t m.levels (env_of m ++ more) (body_block x.block.now) []) same))))

@@ -14,8 +14,8 @@ use Rattle.nesl_eval_machine.proofs.Hands.{moves_from, stuck_moves, found_moves}
 use Rattle.nesl_eval_machine.proofs.Calling.{function_there}
 use Rattle.nesl_eval_machine.proofs.state.Machine.call_at.Goals as goal
 
-pub returns-in-Ok-Function-clause-moves : goal.returns-in-Ok-Function-clause-moves
-returns-in-Ok-Function-clause-moves g c = λ fits.
+pub returns-in-Ok-Function : goal.returns-in-Ok-Function
+returns-in-Ok-Function g c = λ fits.
     let t = g.T.Tops.table c.args.tops.now in
     let m = c.args.self.now in
     let n = c.after_step.new.self in
@@ -25,10 +25,10 @@ returns-in-Ok-Function-clause-moves g c = λ fits.
     let there = function_there (slot_at t c.args.place) code (rw c.in-Ok-Function.field-0-is at c.in-Ok-Function.ensures) in
     moves_from t m n c.after_step.result _ _
     (ap (λ q. left_with t m (and_then (run_called f c.args.node.span q (tree_of c.args.argument)) k)) there)
-    (c.after_step.ensures.moves m _ (c.enter_body-done.ensures.steps t code there fits))
+    (c.after_step.ensures m _ (c.enter_body-done.ensures.steps t code there fits))
 
-pub returns-in-Ok-Datatype-clause-moves : goal.returns-in-Ok-Datatype-clause-moves
-returns-in-Ok-Datatype-clause-moves g c = λ fits.
+pub returns-in-Ok-Datatype : goal.returns-in-Ok-Datatype
+returns-in-Ok-Datatype g c = λ fits.
     let t = g.T.Tops.table c.args.tops.now in
     let m = c.args.self.now in
     let f = run (m.levels - suc c.args.node.height) t in
@@ -38,8 +38,8 @@ returns-in-Ok-Datatype-clause-moves g c = λ fits.
     (ap (λ o. left_with t m (and_then o k)) (sym (held_called f c.args.node.span (slot_at t c.args.place) x (datatype_slot c.in-Ok-Datatype.tag) (rw c.in-Ok-Datatype.field-0-is at c.in-Ok-Datatype.ensures))))
     (found_moves t m m.meter c.record_of.result c.args.next c.in_hand.result (small_enough c.args.node.span (tagged c.in-Ok-Datatype.tag x)) c.in_hand.ensures (c.record_of.ensures m.meter) fits)
 
-pub returns-in-Ok-Variable-clause-moves : goal.returns-in-Ok-Variable-clause-moves
-returns-in-Ok-Variable-clause-moves g c = λ fits.
+pub returns-in-Ok-Variable : goal.returns-in-Ok-Variable
+returns-in-Ok-Variable g c = λ fits.
     let t = g.T.Tops.table c.args.tops.now in
     let m = c.args.self.now in
     let f = run (m.levels - suc c.args.node.height) t in
@@ -48,8 +48,8 @@ returns-in-Ok-Variable-clause-moves g c = λ fits.
     stuck_moves t m m (Err Stuck) _
     (ap (λ o. and_then o k) (sym (held_called f c.args.node.span (slot_at t c.args.place) x (variable_slot (tree_of c.in-Ok-Variable.field-0-0.now)) (rw c.in-Ok-Variable.field-0-is at c.in-Ok-Variable.ensures))))
 
-pub returns-in-Ok-Nothing-clause-moves : goal.returns-in-Ok-Nothing-clause-moves
-returns-in-Ok-Nothing-clause-moves g c = λ fits.
+pub returns-in-Ok-Nothing : goal.returns-in-Ok-Nothing
+returns-in-Ok-Nothing g c = λ fits.
     let t = g.T.Tops.table c.args.tops.now in
     let m = c.args.self.now in
     let f = run (m.levels - suc c.args.node.height) t in

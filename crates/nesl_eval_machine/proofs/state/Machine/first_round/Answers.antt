@@ -2,6 +2,7 @@ use Rattle.std.proofs.Common.{◌≡◌, ℕ, refl, sym, ap, ◌∙◌, inl, inr
 use Rattle.nesl_eval_rounds.specs.declared.state.Chosen.TheVariants.{All}
 use Rattle.nesl_eval_rounds.specs.declared.state.Round.{Round}
 use Rattle.std.specs.List.{range_with_len}
+use Rattle.std.specs.Prelude.{MatchResult}
 use Rattle.std.proofs.lemmas.Result.{err_from_is_err_and}
 use Rattle.nesl_values.specs.View.{tree_of}
 use Rattle.nesl_eval_meaning.specs.Names.{Value}
@@ -10,6 +11,7 @@ use Rattle.nesl_eval_meaning.specs.Outcome.{lengths, common_places}
 use Rattle.nesl_eval_code.specs.Exec.{exec, at_places}
 use Rattle.nesl_eval_ops.specs.View.{body_block}
 use Rattle.nesl_eval_nodes.specs.Meets.{Meets}
+use Rattle.nesl_eval_nodes.specs.declared.meter.Stop.TheVariants.{Memory}
 use Rattle.nesl_eval_rounds.specs.Rounds.{between}
 use Rattle.nesl_eval_machine.specs.State.{in_rounds, frames_of, slots_of, stack_of, env_of, local_of, left_with, unwound}
 use Rattle.nesl_eval_machine.specs.Steps.{Stops}
@@ -52,4 +54,4 @@ returns g c = λ t next.
           (first_between t m.levels next (env_of m) (local_of m) r vs (body_block c.args.block.now) c.args.body x.0 m.meter.depth
           refl refl refl x.1 refl refl refl c.new.ensures.items c.with_room.ensures))
     ])
-    c.in_box.ensures
+    (subst (λ d. MatchResult c.in_box.result (λ b. b.value ≡ record r { start = d }) (λ e. e ≡ Memory)) c.depth.ensures.depth c.in_box.ensures)

@@ -10,8 +10,8 @@ use Rattle.nesl_eval_machine.proofs.Unwinding.{unwound_after}
 use Rattle.nesl_eval_machine.proofs.Turns.{turn_ended, gave_stops}
 use Rattle.nesl_eval_machine.proofs.state.Machine.give_turn.Goals as goal
 
-pub returns-clause-rests : goal.returns-clause-rests
-returns-clause-rests g c = λ t before f is base len levels purpose fits.
+pub returns : goal.returns
+returns g c = λ t before f is base len levels purpose fits.
     let m = c.args.self.now in
     let fs = frames_of m in
     let sl = c.cut.new.values in
@@ -35,8 +35,8 @@ returns-clause-rests g c = λ t before f is base len levels purpose fits.
       })
     ]
 
-pub returns-in_err-gather-clause-rests : goal.returns-in_err-gather-clause-rests
-returns-in_err-gather-clause-rests g c = λ t before f is base len levels purpose fits.
+pub returns-in_err-gather : goal.returns-in_err-gather
+returns-in_err-gather g c = λ t before f is base len levels purpose fits.
     let m = c.args.self.now in
     let fs = frames_of m in
     let sl = take f.len m.slots.items in

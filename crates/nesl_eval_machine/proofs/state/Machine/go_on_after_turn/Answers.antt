@@ -3,11 +3,11 @@ use Rattle.std.specs.Prelude.{slice_get}
 use Rattle.nesl_eval_rounds.specs.Rounds.{chosen_places}
 use Rattle.nesl_eval_machine.proofs.state.Machine.go_on_after_turn.Goals as goal
 
-pub returns-in-Some-clause-steps : goal.returns-in-Some-clause-steps
-returns-in-Some-clause-steps g c = λ fits.
+pub returns-in-Some : goal.returns-in-Some
+returns-in-Some g c = λ fits.
     let t = g.T.Tops.table c.args.tops.now in
-    c.begin_turn.ensures.steps t fits (ap (λ x. slice_get (chosen_places x.chosen) c.args.round.value.turns) (sym c.deref.ensures) ∙ ap (λ x. slice_get (chosen_places c.deref.result.now.chosen) x.turns) (sym c.deref-2.ensures) ∙ sym c.at.ensures ∙ c.in-Some.is)
+    c.begin_turn.ensures t fits (ap (λ x. slice_get (chosen_places x.chosen) c.args.round.value.turns) (sym c.deref.ensures) ∙ ap (λ x. slice_get (chosen_places c.deref.result.now.chosen) x.turns) (sym c.deref-2.ensures) ∙ sym c.at.ensures ∙ c.in-Some.is)
 
-pub returns-in-None-clause-steps : goal.returns-in-None-clause-steps
-returns-in-None-clause-steps g c = λ fits.
-    c.end_turns.ensures.steps fits (ap (λ x. slice_get (chosen_places x.chosen) c.args.round.value.turns) (sym c.deref.ensures) ∙ ap (λ x. slice_get (chosen_places c.deref.result.now.chosen) x.turns) (sym c.deref-2.ensures) ∙ sym c.at.ensures ∙ c.in-None.is)
+pub returns-in-None : goal.returns-in-None
+returns-in-None g c = λ fits.
+    c.end_turns.ensures fits (ap (λ x. slice_get (chosen_places x.chosen) c.args.round.value.turns) (sym c.deref.ensures) ∙ ap (λ x. slice_get (chosen_places c.deref.result.now.chosen) x.turns) (sym c.deref-2.ensures) ∙ sym c.at.ensures ∙ c.in-None.is)

@@ -6,18 +6,15 @@ use Rattle.nesl_eval_machine.specs.Steps.{Moves}
 use Rattle.nesl_eval_machine.proofs.Hands.{nothing_moves}
 use Rattle.nesl_eval_machine.proofs.state.Machine.go_on_at_leaves.Goals as goal
 
-pub returns-in-OfLeaves-clause-moves : goal.returns-in-OfLeaves-clause-moves
-returns-in-OfLeaves-clause-moves g c = λ fits.
+pub returns-in-OfLeaves : goal.returns-in-OfLeaves
+returns-in-OfLeaves g c = λ fits.
     let t = g.T.Tops.table c.args.tops.now in
     let m = c.args.self.now in
     let n = c.of_leaves.new.self in
     let k = c.in-OfLeaves.node in
     let next = c.ops.ensures ∙ c.deref.ensures in
-    let done = subst (λ x. Moves t m c.of_leaves.result n (left_at t m (make k.height k.span (two_is k.two) 0 (leaf_is c.in-OfLeaves.left ∷ leaf_is c.in-OfLeaves.right ∷ []) x))) next (c.of_leaves.ensures.moves fits) in
+    let done = subst (λ x. Moves t m c.of_leaves.result n (left_at t m (make k.height k.span (two_is k.two) 0 (leaf_is c.in-OfLeaves.left ∷ leaf_is c.in-OfLeaves.right ∷ []) x))) next (c.of_leaves.ensures fits) in
     subst (λ b. Moves t m c.of_leaves.result n (left_at t m (block_of b))) (sym c.in-OfLeaves.is) done
 
 pub returns-in_default : goal.returns-in_default
-returns-in_default g c = record {
-  moves = nothing_moves (g.T.Tops.table c.args.tops.now) c.args.self.now;
-  bounded = c.requires;
-}
+returns-in_default g c = nothing_moves (g.T.Tops.table c.args.tops.now) c.args.self.now

@@ -10,14 +10,14 @@ use Rattle.nesl_eval_machine.proofs.Stepping.{nothing_popped}
 use Rattle.nesl_eval_machine.proofs.Turns.{rests_popped}
 use Rattle.nesl_eval_machine.proofs.state.Machine.leave_turn.Goals as goal
 
-pub returns-in-Some-clause-rests : goal.returns-in-Some-clause-rests
-returns-in-Some-clause-rests g c = λ t before f is base len levels purpose fits.
+pub returns-in-Some : goal.returns-in-Some
+returns-in-Some g c = λ t before f is base len levels purpose fits.
     let m = record c.args.self.now { frames = before } in
     rests_popped t m c.give_turn.new.self c.pop.new.self c.in-Some.value c.give_turn.result (block_of f.next.now) c.give_turn.new.round.value
-    c.in-Some.ensures.items fits (λ h. c.give_turn.ensures.rests t before f is base len levels purpose h)
+    c.in-Some.ensures.items fits (λ h. c.give_turn.ensures t before f is base len levels purpose h)
 
-pub returns-in-None-clause-rests : goal.returns-in-None-clause-rests
-returns-in-None-clause-rests g c = λ t before f is base len levels purpose fits.
+pub returns-in-None : goal.returns-in-None
+returns-in-None g c = λ t before f is base len levels purpose fits.
     let m = record c.args.self.now { frames = before } in
     let e : List Value → Out Value = exec t m.levels (env_of m) finish in
     nothing_popped {U = Unit {0}} t m (record c.args.self.now { stack = c.pop.new.self }) (block_of m.code.now) (Err Stuck) e c.in-None.ensures.cases.0 refl

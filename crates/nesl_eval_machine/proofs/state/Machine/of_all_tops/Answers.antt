@@ -12,14 +12,14 @@ use Rattle.nesl_eval_machine.proofs.Taking.{few_taken}
 use Rattle.nesl_eval_machine.proofs.Hands.{many_moves}
 use Rattle.nesl_eval_machine.proofs.state.Machine.of_all_tops.Goals as goal
 
-pub returns-in_err-values-clause-moves : goal.returns-in_err-values-clause-moves
-returns-in_err-values-clause-moves g c = λ t fits.
+pub returns-in_err-values : goal.returns-in_err-values
+returns-in_err-values g c = λ t fits.
     let m = c.args.self.now in
     let p = err_from_is_err_and c.from_residual.result c.from_residual.ensures.1 in
     rw (p.1, p.2, c.in_err-values.ensures) (memory_any (frames_of m) m.meter.fuel m.meter.fuel _)
 
-pub returns-in-Some-clause-moves : goal.returns-in-Some-clause-moves
-returns-in-Some-clause-moves g c = λ t fits.
+pub returns-in-Some : goal.returns-in-Some
+returns-in-Some g c = λ t fits.
     let m = c.args.self.now in
     let k = c.args.node in
     let n = c.of_all.new.self in
@@ -27,10 +27,10 @@ returns-in-Some-clause-moves g c = λ t fits.
     let f : List Value × List Value → Out Value =
     λ p. and_then (made_of k.span (many_is k.many) p.0) (λ v. exec t m.levels (env_of m) (block_of c.args.next.now) (v ∷ p.1)) in
     let taken = subst (λ r. TakesOff m.stack.items s.items c.args.count (Ok r)) c.in-Some.is c.in_ok-values.ensures in
-    many_moves t m n s c.in-Some.values.items c.of_all.result c.args.count f taken.0 taken.1 fits (λ h. c.of_all.ensures.moves t h)
+    many_moves t m n s c.in-Some.values.items c.of_all.result c.args.count f taken.0 taken.1 fits (λ h. c.of_all.ensures t h)
 
-pub returns-in-None-clause-moves : goal.returns-in-None-clause-moves
-returns-in-None-clause-moves g c = λ t fits.
+pub returns-in-None : goal.returns-in-None
+returns-in-None g c = λ t fits.
     let m = c.args.self.now in
     let k = c.args.node in
     let s = c.take_off.new.stack in

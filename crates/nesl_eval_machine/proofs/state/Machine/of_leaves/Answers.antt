@@ -5,8 +5,8 @@ use Rattle.nesl_eval_machine.specs.State.{env_of}
 use Rattle.nesl_eval_machine.proofs.Hands.{found_moves}
 use Rattle.nesl_eval_machine.proofs.state.Machine.of_leaves.Goals as goal
 
-pub returns-clause-moves : goal.returns-clause-moves
-returns-clause-moves g c = λ fits.
+pub returns : goal.returns
+returns g c = λ fits.
     let t = g.T.Tops.table c.args.tops.now in
     let k = c.args.node.now in
     let m = c.args.self.now in

@@ -10,15 +10,15 @@ use Rattle.nesl_eval_machine.specs.State.{env_of}
 use Rattle.nesl_eval_machine.proofs.Hands.{popped_moves, none_moves}
 use Rattle.nesl_eval_machine.proofs.state.Machine.of_tops.Goals as goal
 
-pub returns-in-Some-clause-moves : goal.returns-in-Some-clause-moves
-returns-in-Some-clause-moves g c = λ t fits.
+pub returns-in-Some : goal.returns-in-Some
+returns-in-Some g c = λ t fits.
     let m = c.args.self.now in
     let k = c.args.node.now in
     let f : List Value → Out Value = λ vs. exec t m.levels (env_of m) (make k.height k.span (two_is k.two) 2 [] (block_of c.args.next.now)) (tree_of c.args.right ∷ vs) in
-    popped_moves t m c.of_both.new.self c.pop.new.self c.in-Some.left c.of_both.result f c.in-Some.ensures.items refl fits (λ h. c.of_both.ensures.moves t h)
+    popped_moves t m c.of_both.new.self c.pop.new.self c.in-Some.left c.of_both.result f c.in-Some.ensures.items refl fits (λ h. c.of_both.ensures t h)
 
-pub returns-in-None-clause-moves : goal.returns-in-None-clause-moves
-returns-in-None-clause-moves g c = λ t fits.
+pub returns-in-None : goal.returns-in-None
+returns-in-None g c = λ t fits.
     let m = c.args.self.now in
     let k = c.args.node.now in
     let f : List Value → Out Value = λ vs. exec t m.levels (env_of m) (make k.height k.span (two_is k.two) 2 [] (block_of c.args.next.now)) (tree_of c.args.right ∷ vs) in

@@ -4,8 +4,8 @@ use Rattle.nesl_eval_machine.specs.State.{env_of}
 use Rattle.nesl_eval_machine.proofs.Hands.{found_moves}
 use Rattle.nesl_eval_machine.proofs.state.Machine.push_leaf.Goals as goal
 
-pub returns-clause-moves : goal.returns-clause-moves
-returns-clause-moves g c = λ fits.
+pub returns : goal.returns
+returns g c = λ fits.
     let t = g.T.Tops.table c.args.tops.now in
     let m = c.args.self.now in
     found_moves t m c.enter_leaf-found.new.meter c.enter_leaf-found.result c.args.next c.in_hand.result

@@ -10,27 +10,20 @@ use Rattle.nesl_eval_machine.proofs.Operands.{leaf_next, leaves_begin}
 use Rattle.nesl_eval_machine.proofs.state.Machine.put_leaves.Goals as goal
 
 pub loop-leaf-init : goal.loop-leaf-init
-loop-leaf-init g c = record {
-  bounded = c.requires;
-  so_far = λ s f k b fits. leaves_begin (g.T.Tops.table c.args.tops.now) c.args.self.now c.args.height s f k (map leaf_is c.args.leaves.now) b fits;
-}
+loop-leaf-init g c = λ s f k b fits. leaves_begin (g.T.Tops.table c.args.tops.now) c.args.self.now c.args.height s f k (map leaf_is c.args.leaves.now) b fits
 
 pub loop-leaf-preserved : goal.loop-leaf-preserved
-loop-leaf-preserved g c =
+loop-leaf-preserved g c = λ s f k b fits.
     let t = g.T.Tops.table c.args.tops.now in
     let m = c.args.self.now in
     let ls = c.args.leaves.now in
     let i = c.loop-leaf.leaf-index in
     let x = c.leaf-item.result in
-    record {
-      bounded = c.in_ok-put_leaf.ensures.bounded;
-      so_far = λ s f k b fits.
-          leaf_next t m c.loop-leaf.self c.put_leaf.new.self (Ok (tt {0})) c.args.height s f k i (leaf_is x) (map leaf_is (drop i ls)) (map leaf_is (drop (i + 1) ls)) b _
-          (ap (map leaf_is) (next_item ls x i c.loop-leaf-test.true c.leaf-item.is)) (c.loop-leaf.invariant.so_far s f k b fits) (λ d h. c.in_ok-put_leaf.ensures.steps d h);
-    }
+    leaf_next t m c.loop-leaf.self c.put_leaf.new.self (Ok (tt {0})) c.args.height s f k i (leaf_is x) (map leaf_is (drop i ls)) (map leaf_is (drop (i + 1) ls)) b _
+    (ap (map leaf_is) (next_item ls x i c.loop-leaf-test.true c.leaf-item.is)) (c.loop-leaf.invariant s f k b fits) (λ d h. c.in_ok-put_leaf.ensures d h)
 
-pub returns-in_err-put_leaf-clause-steps : goal.returns-in_err-put_leaf-clause-steps
-returns-in_err-put_leaf-clause-steps g c = λ s f k b fits.
+pub returns-in_err-put_leaf : goal.returns-in_err-put_leaf
+returns-in_err-put_leaf g c = λ s f k b fits.
     let t = g.T.Tops.table c.args.tops.now in
     let m = c.args.self.now in
     let ls = c.args.leaves.now in
@@ -38,10 +31,10 @@ returns-in_err-put_leaf-clause-steps g c = λ s f k b fits.
     let x = c.leaf-item.result in
     let p = err_from_is_err_and c.from_residual.result c.from_residual.ensures.1 in
     rw (p.1, p.2) (leaf_next {U = Unit {0}} t m c.loop-leaf.self c.put_leaf.new.self (Err c.in_err-put_leaf.field-0.0) c.args.height s f k i (leaf_is x) (map leaf_is (drop i ls)) (map leaf_is (drop (i + 1) ls)) b _
-    (ap (map leaf_is) (next_item ls x i c.loop-leaf-test.true c.leaf-item.is)) (c.loop-leaf.invariant.so_far s f k b fits) (λ d h. c.in_err-put_leaf.ensures.steps d h))
+    (ap (map leaf_is) (next_item ls x i c.loop-leaf-test.true c.leaf-item.is)) (c.loop-leaf.invariant s f k b fits) (λ d h. c.in_err-put_leaf.ensures d h))
 
-pub returns-clause-steps : goal.returns-clause-steps
-returns-clause-steps g c = λ s f k b fits.
+pub returns : goal.returns
+returns g c = λ s f k b fits.
     let t = g.T.Tops.table c.args.tops.now in
     let ls = c.args.leaves.now in
     let i = c.loop-leaf.leaf-index in
@@ -49,4 +42,4 @@ returns-clause-steps g c = λ s f k b fits.
     let all : length ls ≡ i = omega arith in
     subst (λ j. Steps t m (Ok (tt {0})) c.loop-leaf.self (make c.args.height s f (k + j) [] b) (left_at t m (make c.args.height s f k (map leaf_is ls) b))) (sym all)
     (subst (λ l. Steps t m (Ok (tt {0})) c.loop-leaf.self (make c.args.height s f (k + i) (map leaf_is l) b) (left_at t m (make c.args.height s f k (map leaf_is ls) b))) (drop_past ls i all)
-    (c.loop-leaf.invariant.so_far s f k b fits))
+    (c.loop-leaf.invariant s f k b fits))

@@ -1,4 +1,4 @@
-use Rattle.std.proofs.Common.{ℕ, ◌+◌, ◌<◌, ◌^◌, Ok, drop, map}
+use Rattle.std.proofs.Common.{ℕ, ◌+◌, Ok, drop, map}
 use Rattle.nesl_lex.specs.declared.token.Span.{Span}
 use Rattle.nesl_eval_code.specs.Block.{Block, Maker, make}
 use Rattle.nesl_eval_ops.specs.View.{leaf_is}
@@ -9,10 +9,6 @@ use Rattle.nesl_eval_machine.proofs.state.Machine.put_leaves.Given as goal
 abbrev pub invariant-loop-leaf : goal.invariant-loop-leaf
 invariant-loop-leaf g l =
     let t = g.T.Tops.table l.tops in
-    record {
-      bounded : l.self.meter.fuel + l.self.meter.depth < 2 ^ 64;
-      so_far :
-          (s : Span) (f : Maker) (k : ℕ) (b : Block) → Fits t l.fn.self →
-          Steps t l.fn.self (Ok (tt {0})) l.self (make l.height s f (k + l.leaf-index) (map leaf_is (drop l.leaf-index l.leaves)) b)
-          (left_at t l.fn.self (make l.height s f k (map leaf_is l.leaves) b));
-    }
+    (s : Span) (f : Maker) (k : ℕ) (b : Block) → Fits t l.fn.self →
+    Steps t l.fn.self (Ok (tt {0})) l.self (make l.height s f (k + l.leaf-index) (map leaf_is (drop l.leaf-index l.leaves)) b)
+    (left_at t l.fn.self (make l.height s f k (map leaf_is l.leaves) b))

@@ -19,18 +19,15 @@ plain t n b k (inl e) env st v w d = ap (λ x. resumed_as t n b x env st (value 
 plain t n b k (inr e) env st v w d = ap (λ x. resumed_as t n b x env st (value v w d)) e.1
 
 pub returns-in-Push : goal.returns-in-Push
-returns-in-Push g c = record {
-  moves = λ before is fits.
-      let t = g.T.Tops.table c.args.tops.now in
-      resumed_with t c.args.self.now c.args.frame before c.cut.new.values c.args.value is fits c.cut.ensures
-      (plain t c.args.frame.levels (block_of c.args.frame.next.now) c.args.frame.purpose c.in-Push.is);
-  bounded = c.requires;
-}
+returns-in-Push g c = λ before is fits.
+    let t = g.T.Tops.table c.args.tops.now in
+    resumed_with t c.args.self.now c.args.frame before c.cut.new.values c.args.value is fits c.cut.ensures
+    (plain t c.args.frame.levels (block_of c.args.frame.next.now) c.args.frame.purpose c.in-Push.is)
 
-pub returns-in-Turn-clause-moves : goal.returns-in-Turn-clause-moves
-returns-in-Turn-clause-moves g c = λ before is fits.
+pub returns-in-Turn : goal.returns-in-Turn
+returns-in-Turn g c = λ before is fits.
     let t = g.T.Tops.table c.args.tops.now in
     let m = record c.args.self.now { frames = before } in
     let f = c.args.frame in
     let turn : before.items ≡ _ = is ∙ ap (λ (k : Purpose g.row.A.Denot). c.args.self.now.frames.items ++ (record f { purpose = k }) ∷ []) c.in-Turn.is in
-    steps_move t m c.end_turn.new.self c.end_turn.result c.empty_handed.result _ c.empty_handed.ensures (c.end_turn.ensures.steps before f.height turn fits)
+    steps_move t m c.end_turn.new.self c.end_turn.result c.empty_handed.result _ c.empty_handed.ensures (c.end_turn.ensures before f.height turn fits)

@@ -1,5 +1,8 @@
+use Rattle.std.proofs.Common.{◌≡◌, subst, suc}
+use Rattle.std.specs.Prelude.{max, MatchResult}
 use Rattle.std.proofs.lemmas.Result.{err_from_is_err_and}
 use Rattle.nesl_values.specs.View.{tree_of}
+use Rattle.nesl_eval_nodes.specs.declared.meter.Stop.TheVariants.{Memory}
 use Rattle.nesl_eval_rounds.proofs.Gathering.{place_gave, no_place, some_there}
 use Rattle.nesl_eval_rounds.proofs.state.Round.gather_place.Goals as goal
 
@@ -16,6 +19,10 @@ returns-in_err-keep_if g c = λ t n b env st some.
 
 pub returns : goal.returns
 returns g c = λ t n b env st some.
-    let there = some_there c.args.self.now.body some in
-    place_gave t n b env st c.args.self.now c.end_turn.new.self c.keep_if.new.kept there.0 (tree_of c.args.made) c.in_ok-holds.holds c.args.meter.now.depth c.args.meter.now.fuel c.end_turn.result
-    there.1 c.in_ok-holds.ensures c.in_ok-keep_if.ensures c.end_turn.ensures
+    let r = c.args.self.now in
+    let n1 = c.end_turn.new.self in
+    let there = some_there r.body some in
+    let ended : MatchResult c.end_turn.result (λ x. n1 ≡ record r { kept = c.keep_if.new.kept; turns = suc r.turns; most = max r.most c.args.meter.now.depth }) (λ e. e ≡ Memory) =
+    subst (λ d. MatchResult c.end_turn.result (λ x. n1 ≡ record r { kept = c.keep_if.new.kept; turns = suc r.turns; most = max r.most d }) (λ e. e ≡ Memory)) c.depth.ensures.depth c.end_turn.ensures in
+    place_gave t n b env st r n1 c.keep_if.new.kept there.0 (tree_of c.args.made) c.in_ok-holds.holds c.args.meter.now.depth c.args.meter.now.fuel c.end_turn.result
+    there.1 c.in_ok-holds.ensures c.in_ok-keep_if.ensures ended

@@ -23,6 +23,6 @@ returns-clause-gave g c = λ t n b env st is.
     let n1 = c.end_turn.new.self in
     let same : tree_of c.in_ok-value.value ≡ tree_of c.args.made = cc c.in_ok-value.ensures.meets.0 in
     let ended : MatchResult c.end_turn.result (λ x. n1 ≡ record r { values = c.add.new.builder; turns = suc r.turns; most = max r.most c.args.meter.now.depth }) (λ e. e ≡ Memory) =
-    subst (λ d. MatchResult c.end_turn.result (λ x. n1 ≡ record r { values = c.add.new.builder; turns = suc r.turns; most = max r.most d }) (λ e. e ≡ Memory)) c.in_ok-value.ensures.depth c.end_turn.ensures in
+    subst (λ d. MatchResult c.end_turn.result (λ x. n1 ≡ record r { values = c.add.new.builder; turns = suc r.turns; most = max r.most d }) (λ e. e ≡ Memory)) (c.depth.ensures.depth ∙ c.in_ok-value.ensures.depth) c.end_turn.ensures in
     value_gave t n b env st r n1 c.add.new.builder (tree_of c.args.made) c.args.meter.now.depth c.args.meter.now.fuel c.pay.new.meter.fuel c.end_turn.result is
     (c.in_ok-add.ensures ∙ ap (λ x. elements_of r.values ++ x ∷ []) same) c.in_ok-value.ensures.meets.1 ended
