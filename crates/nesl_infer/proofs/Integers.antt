@@ -34,7 +34,7 @@ only_principal context e t closed h = (
 )
 
 module _ {P : Type 0} (context : List (List ℕ × Top × P)) where
-  -- what is in a node is an integer and nothing else
+  -- a node holds just an integer
   abbrev Shows : Shape → (ℕ → Class) → Term → Type 0
   Shows k of t = HasShapeType (bounded (meanings_in context None) of) [] k t
 

@@ -145,7 +145,7 @@ after_next n k v vs g e =
     let is : v ≡ k = next_number n k v front.0 g (sym grown ∙ front.1 ∙ append_assoc (numbers_below k) (v ∷ []) front.0) in
     (is, subst (λ (w : ℕ). fold with_number (numbers_below k ++ w ∷ []) vs ≡ numbers_below n) is grown)
 
--- numbers that are renamed and come in order before and after are what they were
+-- numbers that are in order before they are renamed and after it stay the same
 in_order : (r s : ℕ → ℕ) (vs : List ℕ) (k n m : ℕ) → Each (λ v. s (r v) ≡ v) vs → ((v : ℕ) → v < k → (r v ≡ v) × (s v ≡ v)) →
     fold with_number (numbers_below k) vs ≡ numbers_below n → fold with_number (numbers_below k) (map r vs) ≡ numbers_below m → Each (λ v. r v ≡ v) vs × (n ≡ m)
 in_order r s [] k n m h f e d = (tt, sym (length-numbers_below n) ∙ ap length (sym e ∙ d) ∙ length-numbers_below m)

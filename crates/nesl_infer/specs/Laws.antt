@@ -29,7 +29,7 @@ pub record IsWith (put : ℕ → Term) (N M : TypedNames) : Type 0 where
   pub datatypes : (x : List ℕ) (d : ℕ × Term) → N.datatypes x ≡ Some d → M.datatypes x ≡ Some d
   pub closed : (x : List ℕ) (d : ℕ × Term) → N.datatypes x ≡ Some d → substitute put d.1 ≡ d.1
 
--- an expression that has a type has each type that comes of it by putting types of their classes for variables, of any
+-- an expression that has a type has each type that results from putting types of their classes for variables, of any
 -- size
 abbrev pub TypingsHaveInstances : Type 0
 TypingsHaveInstances =
@@ -37,12 +37,12 @@ TypingsHaveInstances =
     (e : Tree) (sc : LocalTypes) (t : Term) → HasType (unbounded N of) sc e t →
     HasType (unbounded M k) (scope_with put sc) e (substitute put t)
 
--- the function in whose body an expression stands, with types in place of variables
+-- the function whose body an expression is in, with types in place of variables
 abbrev pub own_with : (ℕ → Term) → OwnFunction → OwnFunction
 own_with put None = None
 own_with put (Some own) = Some (own.0, substitute put own.1, substitute put own.2)
 
--- what names mean with types in place of variables is what they mean where the own function has such types
+-- names mean, with types in place of variables, what they mean where the own function has such types
 abbrev pub MeaningsHaveInstances : {P : Type 0} → List (List ℕ × Top × P) → Type 0
 MeaningsHaveInstances context =
     (own : OwnFunction) (put : ℕ → Term) → IsWith put (meanings_in context own) (meanings_in context (own_with put own))

@@ -1,5 +1,5 @@
--- What the three calls answer: the first unknown name where there is one; else that there is no bounded type; else the
--- principal type, or that it has a variable. Each may answer want of memory instead.
+-- What the three calls return: the first unknown name where there is one; else that there is no bounded type; else the
+-- principal type, or that it has a variable. Each may report that memory ran out instead.
 use Rattle.std.specs.Prelude.{◌≡◌, ◌<◌, ◌≤◌, ℕ, List, [], Option, Some, None, Result, Ok, Err}
 use Rattle.nesl_lex.specs.declared.token.Span.{Span}
 use Rattle.nesl_types.specs.declared.bindings.Top.{Top}
@@ -52,7 +52,7 @@ module _ (known : Option (List ℕ) → Names) where
       (t : Term) × IsWritten (known None).datatypes a t × (4096 < nodes t)
   IsContentBy a ambiguous = ⊥
 
--- what a call answers: a verdict, or want of memory
+-- what a call returns: a verdict, or that memory ran out
 abbrev pub AnswersVerdict : {T X : Type 0} → (X → T) → (Verdict T → Type 0) → Result X InferFault → Type 0
 AnswersVerdict f Is (Ok x) = Is (typed (f x))
 AnswersVerdict f Is (Err (Unknown s)) = Is (unknown_at s)

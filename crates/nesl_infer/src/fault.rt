@@ -8,7 +8,7 @@ use std::alloc::AllocError;
 /// Why an expression or a function has no type.
 #[derive(Debug, Drop, PartialEq, Eq)]
 pub enum InferFault {
-    /// A name that stands for nothing: the first in the text.
+    /// A name that means nothing: the first in the text.
     Unknown { span: Span },
     /// No types of at most 4,096 nodes.
     IllTyped,

@@ -124,7 +124,7 @@ fn principal_scheme<P: Drop>(
 }
 
 /// From how many bytes on an expression is searched for unknown names before its equations are made. A long line can
-/// have so many that solving them takes seconds, which nobody needs where a name is unknown.
+/// have enough of them that solving takes seconds, which is of no use where a name is unknown.
 const LONG: usize = 512;
 
 /// Whether an expression is long.

@@ -12,7 +12,7 @@ pub fn typings_have_instances()
     ensures { TypingsHaveInstances }
 {}
 
-/// What names mean has its instances, too, if no variable stands in the types of top-level variables and datatypes.
+/// What names mean has its instances, too, if no variable occurs in the types of top-level variables and datatypes.
 pub fn meanings_have_instances<P>(context: &Context<P>)
     requires { AreClosed context.now }
     ensures { MeaningsHaveInstances context.now }

@@ -47,7 +47,7 @@ closed_with x t p bs k h = λ y u q e.
       | inr i ↦ subst IsClosed (ap (λ a. a.0) (same_inside (t, p) (u, q) (sym i ∙ e))) k
     ]
 
--- no variable stands in a type that is written
+-- no variable occurs in a type that is written
 mutual
   pub written-closed : (ds : DatatypesByName) (a : TypeTree) (t : Term) → IsWritten ds a t → IsBelow 0 t
   written-closed ds (written s k) t h = shape-closed ds k t h

@@ -1,4 +1,4 @@
--- What names mean under a substitution speaks of the variables so far alone.
+-- What names mean under a substitution depends only on the variables so far.
 use Rattle.std.proofs.Common.{◌≡◌, ◌<◌, ◌≤◌, ℕ, List, [], ◌∷◌, ◌++◌, refl, ap, ◌∙◌, subst}
 use Rattle.std.specs.Prelude.{Option, Some, None}
 use Rattle.std.proofs.lemmas.List.Elements.{All-head, All-tail}
@@ -13,7 +13,7 @@ use Rattle.nesl_infer_rules.specs.Typing.{LocalTypes, HasType, HaveType}
 use Rattle.nesl_infer_rules.specs.Principal.{bounded}
 use Rattle.nesl_infer_rules.specs.Steps.{Agrees, key_of, scope_at, own_at, AreLocalsBelow, IsOwnBelow}
 
--- the meaning of names speaks of the variables below n alone
+-- the meaning of names depends only on the variables below n
 pub record IsFixed (n : ℕ) (N : (ℕ → Term) → TypedNames) (S : (ℕ → Term) → LocalTypes) : Type 0 where
   pub names : (s z : ℕ → Term) → Agrees n s z → N s ≡ N z
   pub scope : (s z : ℕ → Term) → Agrees n s z → S s ≡ S z

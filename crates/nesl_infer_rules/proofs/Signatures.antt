@@ -138,7 +138,7 @@ here put x (name y) t o h e = by_test (bytes_eq x y) (λ q. (bytes_eq-Decides x 
     by_test true d = ap Some (h ∙ ap (λ (z : List ℕ). trim (put z)) (sym (d refl)))
     by_test false d = e
 
--- a name is found where it stands, or where it stands before
+-- a name is found where it is, or where it is before
 found_name : (put : List ℕ → Term) (x : List ℕ) (ls rs : LocalTypes) → AreGiven put ls → local_type x (ls ++ (name x, trim (put x)) ∷ rs) ≡ Some (trim (put x))
 found_name put x [] rs h = ap (λ (b : Bool). cond b (Some (trim (put x))) (local_type x rs)) ((bytes_eq-Decides x x).1 refl)
 found_name put x (b ∷ ls) rs h = here put x b.0 b.1 (local_type x (ls ++ (name x, trim (put x)) ∷ rs)) h.0 (found_name put x ls rs h.1)
@@ -207,7 +207,7 @@ put_in-is put (b ∷ ns) x h = entry b.0 b.1 h.0 (put_in-is put ns x h.1)
         by_test true d = inr (ap Some (g ∙ ap (λ (z : List ℕ). trim (put z)) (sym (d refl))))
         by_test false d = r
 
--- what is put for a name that stands in no type is of any class
+-- the type that is put for a name in no type is of any class
 meant-given : (ds : DatatypesByName) (of : ℕ → Class) (put : List ℕ → Term) (ns : LocalTypes) → AreGiven put ns → (m : MemberTree) → IsInItsClass ds of put m → IsInItsClass ds of (put_in ns) m
 meant-given ds of put ns h m = at_place (ds m.name)
   where
@@ -251,7 +251,7 @@ arm_written_pair T U v i j inside f g p1 p2 p3 p4 p5 =
     (λ s of b h. h.1 ∙ ap (λ (t : Term). pair_of t (s j)) h.0.0.1 ∙ ap (λ (t : Term). pair_of (T s) t) h.0.1)
     (λ s of b h. let e : nodes (s v) ≡ 1 + nodes (T s) + nodes (U s) = ap nodes h in let l = b v in ((T s, U s), ((((omega arith, omega arith), refl), refl), h)))
 
--- what a name means speaks of the variables of the names alone
+-- what a name means depends only on the variables of the names
 pub put_in-fixed : (n : ℕ) (ls : List Local) (s z : ℕ → Term) → AreLocalsBelow n ls → Agrees n s z → put_in (scope_at s ls) ≡ put_in (scope_at z ls)
 put_in-fixed n ls s z h a = ap put_in (scope-fixed n ls h s z a)
 

@@ -15,7 +15,7 @@ use Rattle.nesl_infer_rules.specs.declared.state.State.{State}
 use Rattle.nesl_infer_rules.specs.Steps.{Agrees, count, IsSolution, Gives, Adds}
 use Rattle.nesl_infer_rules.proofs.Agreement.{holds-agrees, Agrees-trans, with_at, with_at-agrees, with_at-same, with_at-bounded}
 
--- one step after another, where what the second says of x speaks of the variables of the first state alone
+-- one step after another, where what the second says of x depends only on the variables of the first state
 pub gives_then : {X Y : Type 0} {A B C : State} {r : (ℕ → Term) → X} {q : (ℕ → Term) → Y} (P : (ℕ → Term) → (ℕ → Class) → X → Type 0) (Q : X → (ℕ → Term) → (ℕ → Class) → Y → Type 0) →
     Gives A B r P → Gives B C q (λ s of y. Q (r s) s of y) →
     ((x : X) (s z : ℕ → Term) (of : ℕ → Class) (y : Y) → Agrees (count A) s z → Q x s of y → Q x z of y) →
@@ -161,7 +161,7 @@ gives_exactly v t l k p1 p2 =
     let q = gives_and (λ s of u. nodes u ≤ 4096) (λ u s of. u ≡ t) p1 (adds_is v (λ s. substitute s t) (λ s. t) k p2) (λ x s z of a h. h) in
     gives_as (λ s. s v) _ (λ s of u. u ≡ t) q q.fixed (λ s of b h. h.1) (λ s of u h. (u, (subst (λ (x : Term). nodes x ≤ 4096) (sym h) l, h), λ z a e. e))
 
--- a type that is two
+-- a type that would be two types
 pub adds_never : {A B C D : State} (v : ℕ) → Gives A B (λ s. s v) (λ s of u. nodes u ≤ 4096) → Adds B C (λ s of. s v ≡ int) → Adds C D (λ s of. s v ≡ bool) → Adds A D (λ s of. ⊥)
 adds_never v p1 p2 p3 =
     let q2 = gives_and (λ s of u. nodes u ≤ 4096) (λ u s of. u ≡ int) p1 p2 (λ x s z of a h. h) in

@@ -7,7 +7,7 @@ use Rattle.nesl_types.specs.Names.{found}
 use Rattle.nesl_types_shared.specs.Numbering.{IsBelow}
 use Rattle.nesl_infer_rules.specs.declared.state.OwnName.{OwnName}
 
--- no variable stands in the type of a top-level variable, nor in a datatype
+-- no variable occurs in the type of a top-level variable, nor in a datatype
 abbrev pub IsClosed : Top → Type 0
 IsClosed (top.Variable t) = IsBelow 0 t
 IsClosed (top.Function s) = Unit {0}

@@ -1,4 +1,4 @@
--- What names mean where an expression stands, by what stands outside of it.
+-- What names mean where an expression is, by what is outside of it.
 use Rattle.std.specs.Prelude.{ℕ}
 use Rattle.nesl_types.specs.declared.classes.Class.{Class}
 use Rattle.nesl_types_shared.specs.Term.{Term}

@@ -74,7 +74,7 @@ module _ {P : Type 0} (context : List (List ℕ × Top × P)) where
 abbrev pub IsPrincipalType : ((ℕ → Class) → Term → Type 0) → Term → Type 0
 IsPrincipalType Fits t = (classes : ℕ → Class) × IsPrincipal Fits classes t
 
--- more than one type: a variable stands in the principal type
+-- more than one type: a variable occurs in the principal type
 abbrev pub IsAmbiguous : ((ℕ → Class) → Term → Type 0) → Type 0
 IsAmbiguous Fits = (t : Term) × IsPrincipalType Fits t × (IsBelow 0 t → ⊥)
 

@@ -24,7 +24,7 @@ Agrees n s z = (v : ℕ) → v < n → s v ≡ z v
 abbrev pub count : State → ℕ
 count state = system.count state.system
 
--- s and `of` solve the equations and the classes; nothing does after want of memory
+-- s and `of` solve the equations and the classes; nothing does after memory ran out
 pub record IsSolution (s : ℕ → Term) (of : ℕ → Class) (state : State) : Type 0 where
   pub whole : state.is_whole ≡ true
   pub solves : SolvesSystem state.system s of

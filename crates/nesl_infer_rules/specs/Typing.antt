@@ -158,7 +158,7 @@ abbrev mutual
   HaveElements w sc (binder p e bs) [] = ⊥
   HaveElements w sc (binder p e bs) (i ∷ is) = HasType w sc e (seq_of i) × HaveElements w sc bs is
 
--- a type as it is written in a signature: a name that is no datatype stands for what `put` gives it
+-- a type as it is written in a signature: a name that is no datatype means what `put` gives it
 abbrev pub name_in_signature : Option (ℕ × Term) → Term → Term
 name_in_signature (Some d) t = named d.0
 name_in_signature None t = t
@@ -181,11 +181,11 @@ class_of written_classes.TheVariants.Ordinal = classes.Ordinal
 class_of written_classes.TheVariants.Number = classes.Number
 class_of written_classes.TheVariants.Logical = classes.Logical
 
--- what a name stands for is in the class that it is put in
+-- what a name means is in the class that it is put in
 abbrev pub IsInItsClass : DatatypesByName → (ℕ → Class) → (List ℕ → Term) → MemberTree → Type 0
 IsInItsClass ds of put m = IsIn of (class_of m.class) (name_in_signature (ds m.name) (put m.name))
 
--- t to u is what a signature says, where there is one, with a type for each name that is no datatype
+-- t to u is the type of a signature, where there is one, with a type for each name that is no datatype
 abbrev pub FitsSignature : DatatypesByName → (ℕ → Class) → SignatureTree → (List ℕ → Term) → Term → Term → Type 0
 FitsSignature ds of s put t u =
     (t ≡ signed ds put s.from) × (u ≡ signed ds put s.to) × All (IsInItsClass ds of put) s.members

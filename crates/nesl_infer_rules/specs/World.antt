@@ -1,4 +1,4 @@
--- What names mean where an expression stands: what they refer to, with its types.
+-- What names mean where an expression is: what they refer to, with its types.
 use Rattle.std.specs.Prelude.{ℕ, List, Option, Some, None, ◌≤◌}
 use Rattle.nesl_types.specs.declared.classes.Class.{Class}
 use Rattle.nesl_types.specs.declared.bindings.Top.{Top}
@@ -15,7 +15,7 @@ pub data Callable : Type 0 where
 abbrev pub DatatypesByName : Type 0
 DatatypesByName = List ℕ → Option (ℕ × Term)
 
--- the top-level variables with their types; what may stand before `(`; and the datatypes
+-- the top-level variables with their types; what may come before `(`; and the datatypes
 pub record TypedNames : Type 0 where
   pub variables : List ℕ → Option Term
   pub functions : List ℕ → Option Callable
@@ -32,7 +32,7 @@ abbrev pub IsAllowed : Option ℕ → Term → Type 0
 IsAllowed None t = Unit {0}
 IsAllowed (Some n) t = nodes t ≤ n
 
--- the function in whose body an expression stands, with what it takes and gives
+-- the function whose body an expression is in, with what it takes and gives
 abbrev pub OwnFunction : Type 0
 OwnFunction = Option (List ℕ × Term × Term)
 

@@ -14,7 +14,7 @@ use nesl_syntax_tree::tree::Binding;
 use std::alloc::AllocError;
 
 /// Adds the names of the patterns, which take elements of the types of the variables apart.
-pub fn bind_patterns<'a, P: Drop>(
+fn bind_patterns<'a, P: Drop>(
     state: &mut State,
     outer: &Outer<'_, P>,
     locals: &mut Locals<'a>,

@@ -57,7 +57,6 @@ impl<'a> Model for Locals<'a> {
 }
 
 impl Key<'_> {
-    /// Whether it is this name.
     fn is_name(&self, name: &[u8]) -> bool
         ensures { result ≡ is_name name.now (key_of self.now) }
     {

@@ -1,4 +1,4 @@
-//! What stands outside of an expression.
+//! What is outside of an expression.
 
 ghost use Rattle.nesl_infer_rules.specs.Contexts.{AreClosed};
 ghost use Rattle.nesl_infer_rules.specs.Closed.{closed-prop};
@@ -6,7 +6,7 @@ ghost use Rattle.nesl_infer_rules.specs.Closed.{closed-prop};
 use crate::state::OwnName;
 use nesl_types::Context;
 
-/// The top-level names, and the function in whose body an expression stands, if it stands in one.
+/// The top-level names, and the function whose body an expression is in, if it is in one.
 #[derive(Drop)]
 pub struct Outer<'a, P> {
     pub context: &'a Context<P>,

@@ -69,7 +69,7 @@ fn tag_of<P: Drop>(context: &Context<P>, name: &[u8]) -> Option<u64>
     }
 }
 
-/// What a name stands for: its datatype, else its variable; `int` where it has none.
+/// What a name means: its datatype, else its variable; `int` where it has none.
 fn name_type<P: Drop>(context: &Context<P>, names: &Locals<'_>, name: &[u8]) -> Flat
     ensures is { (s : ℕ → Term) →
         substitute s (flat_type result)
@@ -147,7 +147,7 @@ fn class_of(class: syntax::Class) -> Class
     }
 }
 
-/// Adds that what a name stands for is in a class.
+/// Adds that what a name means is in a class.
 fn constrain_member<P: Drop>(
     state: &mut State,
     context: &Context<P>,
@@ -163,7 +163,7 @@ fn constrain_member<P: Drop>(
     Ok(())
 }
 
-/// Adds that what each name stands for is in its class.
+/// Adds that what each name means is in its class.
 fn constrain_members<P: Drop>(
     state: &mut State,
     context: &Context<P>,

@@ -15,7 +15,7 @@ pub struct State {
     /// What makes the lists of a line.
     pub alloc: Global,
     pub system: System,
-    /// Whether all equations are there: after want of memory they aren't, and nothing more is added.
+    /// Whether all equations are there: after memory ran out they aren't, and nothing more is added.
     pub is_whole: bool,
     pub ghost made: { is_whole ≡ true → IsSystem system } by { Prim.hlevel facts },
 }
@@ -67,7 +67,7 @@ impl State {
         }
     }
 
-    /// A variable that nothing speaks of yet.
+    /// A variable without equations so far.
     pub fn fresh(&mut self, class: Class) -> Result<u64, AllocError>
         ensures gives { IfOk result (λ v. Gives self.old self.new (λ s. s v) (λ s of u. IsIn of class u
             × (nodes u ≤ 4096))) }
@@ -117,7 +117,7 @@ impl State {
         Ok(())
     }
 
-    /// What never holds: a type that is two.
+    /// An equation that never holds.
     pub fn add_contradiction(&mut self) -> Result<(), AllocError>
         ensures { OnOk result (Adds self.old self.new (λ s of. ⊥)) }
     {

@@ -67,7 +67,7 @@ said_same i n w z t (Part r j) a k h =
     substitute_below (length i.fresh.items - base_in i r) (λ v. z (place_in i r v)) (λ v. w (place_in i r v)) (type_at (parts_in i r) j) k.below
     (λ v l. h (place_in i r v) (place_below i n r v a l))
 
--- what is free at a place that says something is of no account
+-- the type of a free place doesn't matter to a node that says something
 pub said_any : (i : Instances) (n : ℕ) (w : ℕ → Term) (t u : Term) (m : Node) → IsSaid i n m → node_type i w t m ≡ node_type i w u m
 said_any i n w t u Free k = absurd k
 said_any i n w t u (Same q) k = refl

@@ -1,5 +1,5 @@
 -- Instances that are added.
-use Rattle.std.proofs.Common.{◌≡◌, ℕ, ◌+◌, ◌-◌, ◌<◌, ◌++◌, List, [], ◌∷◌, All, Option, Some, IfSome, length, get_or, refl, sym, ap, ◌∙◌, subst, arith}
+use Rattle.std.proofs.Common.{◌≡◌, ℕ, ◌+◌, ◌-◌, ◌<◌, ◌≤◌, ◌++◌, List, [], ◌∷◌, All, Option, Some, IfSome, length, get_or, refl, sym, ap, ◌∙◌, subst, arith}
 use Rattle.std.specs.Prelude.{slice_get, slice_index}
 use Rattle.std.specs.Option.{option_map_or}
 use Rattle.std.proofs.lemmas.List.{get_or_append_left, get_or_push, get_or-append-add, length-append, length_push}
@@ -9,7 +9,6 @@ use Rattle.nesl_types_shared.specs.Term.{Term, variable}
 use Rattle.nesl_types_shared.specs.Numbering.{IsBelow}
 use Rattle.nesl_types_shared.specs.Substitution.{substitute}
 use Rattle.nesl_types_shared.specs.Types.{type_at, Extends}
-use Rattle.nesl_types_shared.proofs.Substitutions.{substitute-same}
 use Rattle.nesl_unify_graph.specs.declared.node.Node.{Node}
 use Rattle.nesl_unify_graph.specs.declared.node.Node.TheVariants.{Part}
 use Rattle.nesl_unify_graph.specs.declared.instances.Source.{Source}
@@ -70,24 +69,30 @@ kept_put i j more fresh x m f r k is =
           ∙ substitute_below (length i.fresh.items - base_in i r) (λ v. w (place_in j r v)) (λ v. w (place_in i r v)) (type_at (parts_in i r) k) is.below (λ v l. ap w (same v l)),
     )
 
+-- there is room for the variables of an instance that was added
+room_for : (fresh : List ℕ) (a b c : ℕ) → (0 < length fresh → b ≡ a) → c ≡ a + length fresh → length fresh ≤ c - b
+room_for [] a b c h e = omega arith
+room_for (v ∷ vs) a b c h e = let k : b ≡ a = h (omega arith) in omega (arith, k, e)
+
 -- the node of an instance that was added
-pub instance_node : (i j : Instances) (source : Source) (fresh : List ℕ) (r k : ℕ) (t : Term) → Extends i.shared j.shared →
-    j.made.items ≡ i.made.items ++ record { source = source; base = length i.fresh.items } ∷ [] → j.fresh.items ≡ i.fresh.items ++ fresh → r ≡ length i.made.items →
+pub instance_node : (i j : Instances) (source : Source) (fresh : List ℕ) (base r k : ℕ) (t : Term) → Extends i.shared j.shared → (0 < length fresh → base ≡ length i.fresh.items) →
+    j.made.items ≡ i.made.items ++ record { source = source; base = base } ∷ [] → j.fresh.items ≡ i.fresh.items ++ fresh → r ≡ length i.made.items →
     k < length (parts_from j source) → type_at (parts_from j source) k ≡ t → IsBelow (length fresh) t → ((v : ℕ) → t ≡ variable v → ⊥) → IsInstanceNode i j fresh t (Part r k)
-instance_node i j source fresh r k t x m f p inside here small whole =
-    let e : Instance = record { source = source; base = length i.fresh.items } in
+instance_node i j source fresh base r k t x begins m f p inside here small whole =
+    let e : Instance = record { source = source; base = base } in
     let long : length j.made.items ≡ length i.made.items + 1 = ap length m ∙ length_push i.made.items e in
     let made : r < length j.made.items = omega (arith, p, long) in
     let b : slice_get j.made.items r ≡ Some e =
     slice_get-get_or j.made.items r no_instance made ∙ ap Some (ap (λ (l : List Instance). get_or l r no_instance) m ∙ get_or_push i.made.items e no_instance r (sym p)) in
     let pj = parts_in_is j r e b in
-    let bj : base_in j r ≡ length i.fresh.items = base_in_is j r e b in
+    let bj : base_in j r ≡ base = base_in_is j r e b in
     let n : length j.fresh.items ≡ length i.fresh.items + length fresh = ap length f ∙ length-append i.fresh.items fresh in
     let at : type_at (parts_in j r) k ≡ t = ap (λ (l : List Term). type_at l k) pj ∙ here in
+    let wide : length fresh ≤ length j.fresh.items - base = room_for fresh (length i.fresh.items) base (length j.fresh.items) begins n in
     let part : IsPart j r k = record {
       made = made;
       within = subst (λ (l : List Term). k < length l) (sym pj) inside;
-      below = subst (IsBelow (length j.fresh.items - base_in j r)) (sym at) (below_more (length fresh) (length j.fresh.items - base_in j r) t (omega (arith, n, bj)) small);
+      below = subst (IsBelow (length j.fresh.items - base_in j r)) (sym at) (below_more (length fresh) (length j.fresh.items - base_in j r) t (omega (arith, wide, bj)) small);
       whole = λ v h. whole v (sym at ∙ h);
     } in
     record {
@@ -96,8 +101,8 @@ instance_node i j source fresh r k t x m f p inside here small whole =
       said = λ n a. part;
       same = λ s u.
           ap (substitute (λ v. s (place_in j r v))) at
-          ∙ substitute-same (λ v. s (place_in j r v)) (λ v. s (slice_index fresh v)) t
-          (λ v. ap s (ap (λ (q : ℕ). slice_index j.fresh.items (q + v)) bj ∙ ap (λ (l : List ℕ). slice_index l (length i.fresh.items + v)) f ∙ get_or-append-add i.fresh.items fresh v 0));
+          ∙ substitute_below (length fresh) (λ v. s (place_in j r v)) (λ v. s (slice_index fresh v)) t small
+          (λ v l. ap s (ap (λ (q : ℕ). slice_index j.fresh.items (q + v)) (bj ∙ begins (omega (arith, l))) ∙ ap (λ (l : List ℕ). slice_index l (length i.fresh.items + v)) f ∙ get_or-append-add i.fresh.items fresh v 0));
     }
 
 -- the node of an instance of a type without parts
@@ -119,7 +124,7 @@ pub shared_instance : (i : Instances) (types : List Term) (j : Instances) (fresh
     IsPutIn (record { shared = types; made = i.made; fresh = i.fresh }) j Shared fresh r → k < length types → type_at types k ≡ t → IsBelow (length fresh) t → ((v : ℕ) → t ≡ variable v → ⊥) →
     IsInstanceNode i j fresh t (Part r k)
 shared_instance i types j fresh r k t x p inside here small whole =
-    instance_node i j Shared fresh r k t (subst (Extends i.shared) (sym p.shared) x) p.made p.fresh p.place
+    instance_node i j Shared fresh p.base r k t (subst (Extends i.shared) (sym p.shared) x) p.begins p.made p.fresh p.place
     (subst (λ (ts : List Term). k < length ts) (sym p.shared) inside) (ap (λ (ts : List Term). type_at ts k) p.shared ∙ here) small whole
 
 -- an instance of a type of its own
@@ -128,4 +133,4 @@ pub own_instance : (i j : Instances) (ts : List Term) (own : Term) (fresh : List
 own_instance i j ts own fresh r k t o p some last order e small whole =
     let q = last_part ts (parts_of own) t k some last (order ∙ ap parts_of (sym o)) e in
     let x : Extends i.shared j.shared = subst (Extends i.shared) (sym p.shared) (record { longer = omega arith; kept = λ p l. refl }) in
-    instance_node i j (Own own) fresh r k t x p.made p.fresh p.place q.0 q.1 small whole
+    instance_node i j (Own own) fresh p.base r k t x p.begins p.made p.fresh p.place q.0 q.1 small whole

@@ -81,7 +81,7 @@ module _ (i : Instances) (ns : List Node) (most n : ℕ) (read : AreReadWithin i
   past_end far zero p g z = absurd (omega arith)
   past_end far (suc m) p g z = ap (node_type i (unrolled i ns far m) (variable p)) (get_or_past ns p Free g)
 
-  -- it is no matter what is beyond
+  -- what is read doesn't depend on what is beyond
   pub read_same : (far : ℕ → Term) (m p : ℕ) → n ≤ m → unrolled i ns far m p ≡ unrolled i ns (λ q. int) n p
   read_same far m p l = elim (cases_lt p (length ns)) [
     | inl h ↦

@@ -61,8 +61,10 @@ IsKept i j =
 
 -- j is i with an instance at place r, whose parts are in `source` and whose variables are those of `more`
 pub record IsPutIn (i j : Instances) (source : Source) (more : List ℕ) (r : ℕ) : Type 0 where
+  pub base : ℕ
+  pub begins : 0 < length more → base ≡ length i.fresh.items
   pub shared : j.shared ≡ i.shared
-  pub made : j.made.items ≡ i.made.items ++ record { source = source; base = length i.fresh.items } ∷ []
+  pub made : j.made.items ≡ i.made.items ++ record { source = source; base = base } ∷ []
   pub fresh : j.fresh.items ≡ i.fresh.items ++ more
   pub place : r ≡ length i.made.items
 

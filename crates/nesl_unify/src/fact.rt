@@ -2,7 +2,7 @@
 
 use nesl_unify_graph::Node;
 
-/// The type of a variable is what the node says. The places in the node are variables too.
+/// The type of a variable is as the node has it. The places in the node are variables too.
 #[derive(Clone, Copy)]
 pub struct Fact {
     pub variable: usize,

@@ -1,4 +1,4 @@
-//! Types that stand for many, with variables of a system for theirs.
+//! Types with variables of their own, and the variables of a system that are put for these.
 
 ghost use Rattle.std.specs.Prelude.{◌≡◌, ◌<◌, ◌++◌, ℕ, All, length, slice_index, IfNone, IfOk, IfSome, OnOk};
 ghost use Rattle.nesl_types_shared.specs.Term.{Term, variable};
@@ -42,6 +42,14 @@ fn add_places(places: &mut Vec<usize>, fresh: &[u64]) -> Result<(), AllocError>
     Ok(())
 }
 
+/// Where the places of an instance's variables begin, if the next place is this one. One without variables begins past
+/// all places, by which it is known.
+fn first_place(next: usize, fresh: &[u64]) -> usize
+    ensures { 0 < length fresh.now → result ≡ next }
+{
+    if fresh.is_empty() { usize::MAX } else { next }
+}
+
 /// Adds an instance whose variables are those of `fresh`, and gives its place.
 fn add_instance(
     instances: &mut Instances,
@@ -50,7 +58,7 @@ fn add_instance(
 ) -> Result<usize, AllocError>
     ensures { IfOk result (IsPutIn instances.old instances.new source fresh.now) }
 {
-    let base = instances.fresh.len();
+    let base = first_place(instances.fresh.len(), fresh);
     add_places(&mut instances.fresh, fresh)?;
     let instance = instances.made.len();
     instances.made.push(Instance { source, base })?;

@@ -51,7 +51,7 @@ fn root_shape(instances: &Instances, nodes: &[Node], place: usize) -> Shape
     }
 }
 
-/// The shape of the type at a place. What its parts are is of no account.
+/// The shape of the type at a place. It doesn't depend on what the parts are.
 pub fn top_shape(instances: &Instances, nodes: &[Node], place: usize) -> Shape
     requires table { IsTableOf instances.now nodes.now }
     requires flat { IsFlat nodes.now }

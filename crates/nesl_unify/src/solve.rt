@@ -26,7 +26,7 @@ use std::alloc::{AllocError, Global};
 /// The greatest number of nodes of a type.
 const MOST_NODES: u64 = 4096;
 
-/// The graph in which the facts are true, and nothing else is said, where its types have at most 4,096 nodes.
+/// The graph in which just the facts are true, where its types have at most 4,096 nodes.
 fn solve_graph(
     alloc: Global,
     instances: &Instances,
@@ -111,7 +111,7 @@ struct Posed {
     facts: Vec<Fact>,
 }
 
-/// What the equations say, where it isn't plain that nothing solves them.
+/// What the equations say, unless they are found to have no solution.
 fn pose(alloc: Global, count: u64, equations: &[Equation]) -> Result<Posed, SolveFault>
     requires { AreBelow count equations.now }
     ensures facts { IfOk result (λ a. AreFacts a.instances count a.facts.items) }

@@ -13,6 +13,9 @@ pub struct Start {
     pub pairs: Vec<Pair>,
 }
 
+/// For how many parts of instances, which are put at the end of a table, room is taken at first.
+const PARTS_ROOM: usize = 32;
+
 /// A table of as many variables, of which nothing is known, with room for so many nodes more.
 fn free_nodes(alloc: Global, count: usize, more: usize) -> Result<Vec<Node>, AllocError>
     ensures { IfOk result (λ ns. ns.items ≡ replicate count Node.Free) }
@@ -27,7 +30,7 @@ fn free_nodes(alloc: Global, count: usize, more: usize) -> Result<Vec<Node>, All
 pub fn start_table(alloc: Global, count: usize, facts: &[Fact]) -> Result<Start, AllocError>
     ensures { IfOk result (λ a. IsStart count (length facts.now) facts.now a.nodes.items a.pairs.items) }
 {
-    let mut nodes = free_nodes(alloc, count, facts.len())?;
+    let mut nodes = free_nodes(alloc, count, facts.len().saturating_add(PARTS_ROOM))?;
     let mut pairs = Vec::with_capacity(alloc, facts.len())?;
     for fact in facts {
         let second = nodes.len();

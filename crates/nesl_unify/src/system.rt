@@ -63,7 +63,6 @@ fn flat_node(flat: Flat) -> Node
     }
 }
 
-/// No instances.
 fn no_instances(alloc: Global) -> Instances
     ensures { result.fresh.items ≡ [] }
 {

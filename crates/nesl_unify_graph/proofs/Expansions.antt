@@ -19,7 +19,7 @@ use Rattle.nesl_unify_graph.specs.Steps.{IsGraph, IsPut, IsSpread, FitsFrom, Mov
 use Rattle.nesl_unify_graph.proofs.Tables.{Describes, each_set, here_set, other_set}
 
 -- types of the variables of a type are all that it sees
-substitute_below : (n : ℕ) (f g : ℕ → Term) (t : Term) → IsBelow n t → ((v : ℕ) → v < n → f v ≡ g v) → substitute f t ≡ substitute g t
+pub substitute_below : (n : ℕ) (f g : ℕ → Term) (t : Term) → IsBelow n t → ((v : ℕ) → v < n → f v ≡ g v) → substitute f t ≡ substitute g t
 substitute_below n f g int b h = refl
 substitute_below n f g bool b h = refl
 substitute_below n f g char b h = refl

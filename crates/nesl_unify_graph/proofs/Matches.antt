@@ -21,7 +21,7 @@ use Rattle.nesl_unify_graph.specs.Tables.{IsPlaced, IsTable, IsPairBelow, AreEqu
 use Rattle.nesl_unify_graph.specs.Steps.{IsGraph, AgreeWhere, AreTwins, HaveWhole, IsMatched, Moves, joined, merged, part_type, weight}
 use Rattle.nesl_unify_graph.proofs.Parts.{part_below, part_one, parts_long, shape_one}
 use Rattle.nesl_unify_graph.proofs.Steps.{Equals, All_left, All_right, equal_first}
-use Rattle.nesl_unify_graph.proofs.Expansions.{place_below}
+use Rattle.nesl_unify_graph.proofs.Expansions.{place_below, substitute_below}
 use Rattle.nesl_unify_graph.proofs.Joins.{join_moves, join_table, pending_below, join_fewer, read_node}
 
 -- the types of the variables of both instances
@@ -112,6 +112,18 @@ matched_all i x ts t old new n whole parts all h =
       one = λ w. (h.forth w, λ q. sym (ap (substitute (left i x w)) here) ∙ h.back w q k l ∙ ap (substitute (right i x w)) here);
       below = h.below;
       few = omega (arith, h.few, all, parts_long ts t parts);
+    }
+
+-- instances of a type without variables are one
+pub matched_closed : (i : Instances) (x : Twins) (t : Term) (old new : List Pair) → new ≡ old → length i.fresh.items - base_in i x.first ≡ 0 → HaveWhole i x t → IsMatched i x t old new
+matched_closed i x t old new e z whole =
+    let closed : IsBelow 0 t = subst (λ (n : ℕ). IsBelow n t) z whole.first in
+    record {
+      pairs = [];
+      is = e ∙ sym (append-nil old);
+      one = λ w. (λ h. All-nil (Equals w), λ q. substitute_below 0 (left i x w) (right i x w) t closed (λ v l. absurd (omega (arith, l))));
+      below = λ m b. All-nil (IsPairBelow m);
+      few = omega arith;
     }
 
 -- a variable of a whole type has a place in each instance

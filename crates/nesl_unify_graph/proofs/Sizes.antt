@@ -3,6 +3,7 @@ use Rattle.std.proofs.Common.{◌≡◌, inl, inr, ℕ, zero, suc, ◌+◌, ◌*
 use Rattle.std.proofs.lemmas.Bool.{cases_lt, cases_eq}
 use Rattle.std.proofs.lemmas.List.{get_or-set_same, get_or-set_other, length-replicate, get_or-replicate, get_or_past, get_or_append_left, get_or_push}
 use Rattle.nesl_types_shared.specs.Term.{Term, int, bool, char, variable, seq_of, pair_of, named, nodes}
+use Rattle.nesl_types_shared.specs.Numbering.{IsBelow}
 use Rattle.nesl_types_shared.specs.Substitution.{substitute}
 use Rattle.nesl_types_shared.specs.Types.{type_at}
 use Rattle.nesl_types_shared.specs.declared.shape.Shape.{Shape}
@@ -19,7 +20,7 @@ use Rattle.nesl_unify_graph.specs.Instances.{parts_in, place_in, instance_type, 
 use Rattle.nesl_unify_graph.specs.Graph.{node_at, node_type, link_or, target}
 use Rattle.nesl_unify_graph.specs.Readings.{unrolled, Reads, AreReadWithin}
 use Rattle.nesl_unify_graph.specs.Forms.{item_type, near}
-use Rattle.nesl_unify_graph.specs.Sizes.{IsLeaf, IsRootRead, IsRootSize, IsSizeWithin, AreSizes, HasLeaves, IsLeafSize, AreLeafSizes, IsRootLook, IsLook}
+use Rattle.nesl_unify_graph.specs.Sizes.{IsLeaf, IsRootRead, IsRootSize, IsSizeWithin, AreSizes, HasLeaves, IsLeafSize, AreLeafSizes, IsMadeSize, IsRootLook, IsLook}
 use Rattle.nesl_unify_graph.proofs.Forms.{link_step, form_at, form_of_same}
 
 -- a type without a link is read a step later where a link leads to it
@@ -37,6 +38,35 @@ read_linked i ns p t (node.Part s k) e r far (suc n) l = r far (suc n) (omega ar
 
 pub read_target : (i : Instances) (ns : List Node) (p : ℕ) (t : Term) → IsRootRead i ns (target ns p) t → Reads i ns p t
 read_target i ns p t r = read_linked i ns p t (node_at ns p) refl r
+
+-- types that are made of types at places
+read_sequence : (i : Instances) (ns : List Node) (p q : ℕ) (t : Term) → node_at ns p ≡ node.SeqOf q → IsRootRead i ns (target ns q) t → IsRootRead i ns p (seq_of t)
+read_sequence i ns p q t e r far zero l = absurd (omega (arith, nodes_positive t))
+read_sequence i ns p q t e r far (suc n) l =
+    ap (node_type i (unrolled i ns far n) (variable p)) e ∙ ap seq_of (read_target i ns q t r far n (omega arith))
+
+read_pair : (i : Instances) (ns : List Node) (p q s : ℕ) (t u : Term) → node_at ns p ≡ node.Both q s → IsRootRead i ns (target ns q) t → IsRootRead i ns (target ns s) u → IsRootRead i ns p (pair_of t u)
+read_pair i ns p q s t u e r k far zero l = absurd (omega (arith, nodes_positive t))
+read_pair i ns p q s t u e r k far (suc n) l =
+    let a = read_target i ns q t r far n (omega arith) in
+    let b = read_target i ns s u k far n (omega arith) in
+    ap (node_type i (unrolled i ns far n) (variable p)) e ∙ ap (λ (x : Term). pair_of x (unrolled i ns far n s)) a ∙ ap (pair_of t) b
+
+pub made_size : (i : Instances) (ns : List Node) (most : ℕ) (sizes : List ℕ) (p k : ℕ) (d : Node) → node_at ns p ≡ d → AreSizes i ns most sizes → IsMadeSize ns sizes d k → IsRootSize i ns p k
+made_size i ns most sizes p k node.Free e a h = absurd h
+made_size i ns most sizes p k (node.Same q) e a h = absurd h
+made_size i ns most sizes p k node.Int e a h = absurd h
+made_size i ns most sizes p k node.Bool e a h = absurd h
+made_size i ns most sizes p k node.Char e a h = absurd h
+made_size i ns most sizes p k (node.Named m) e a h = absurd h
+made_size i ns most sizes p k (node.SeqOf q) e a h =
+    let x = (a (target ns q) h.0).0 in
+    (seq_of x.0, (read_sequence i ns p q x.0 e x.1.0, omega (arith, x.1.1, h.1)))
+made_size i ns most sizes p k (node.Both q s) e a h =
+    let x = (a (target ns q) h.0).0 in
+    let y = (a (target ns s) h.1.0).0 in
+    (pair_of x.0 y.0, (read_pair i ns p q s x.0 y.0 e x.1.0 y.1.0, omega (arith, x.1.1, y.1.1, h.1.1)))
+made_size i ns most sizes p k (node.Part r m) e a h = absurd h
 
 -- the type of an item is that at a place
 pub look_through : (i : Instances) (ns : List Node) (x : Item) (p : ℕ) (look : Look) → ((w : ℕ → Term) → item_type i w x ≡ w p) →
@@ -102,6 +132,19 @@ pub whole_size : (i : Instances) (ns : List Node) (p r k size : ℕ) → node_at
 whole_size i ns p r k size e h f s =
     let t = type_at (parts_in i r) k in
     (freed i ns r t, (root_whole i ns p r t t (node.Part r k) e (λ w. refl) h.whole f, freed_nodes i ns r t f ∙ sym s))
+
+-- a type without variables
+closed_leaves : (i : Instances) (ns : List Node) (r : ℕ) (t : Term) → IsBelow 0 t → HasLeaves i ns r t
+closed_leaves i ns r int b = tt
+closed_leaves i ns r bool b = tt
+closed_leaves i ns r char b = tt
+closed_leaves i ns r (variable v) b = absurd (omega (arith, b))
+closed_leaves i ns r (seq_of t) b = closed_leaves i ns r t b
+closed_leaves i ns r (pair_of t u) b = (closed_leaves i ns r t b.0, closed_leaves i ns r u b.1)
+closed_leaves i ns r (named m) b = tt
+
+pub closed_size : (i : Instances) (ns : List Node) (r n k : ℕ) (t : Term) → n ≡ 0 → IsBelow n t → (0 < k → k ≡ nodes t) → IsLeafSize i ns r t k
+closed_size i ns r n k t z b h l = (closed_leaves i ns r t (subst (λ (m : ℕ). IsBelow m t) z b), h l)
 
 -- sizes of the parts of an instance's type, one after the other
 pub leaf_size_at : (i : Instances) (ns : List Node) (r n k : ℕ) (ts us : List Term) (s : Shape) (lent sizes : List ℕ) → us ≡ ts → lent ≡ sizes → length sizes ≡ n → type_at us n ≡ shape_type (type_at us) s →

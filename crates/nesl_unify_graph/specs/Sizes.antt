@@ -1,7 +1,8 @@
 -- How many nodes the types of a graph have.
-use Rattle.std.specs.Prelude.{◌≡◌, ◌<◌, ◌≤◌, ◌*◌, ℕ, suc, List, [], slice_index, length}
+use Rattle.std.specs.Prelude.{◌≡◌, ◌<◌, ◌≤◌, ◌+◌, ◌*◌, ℕ, suc, List, [], slice_index, length}
 use Rattle.nesl_types_shared.specs.Term.{Term, int, bool, char, variable, seq_of, pair_of, named, nodes}
 use Rattle.nesl_unify_graph.specs.declared.node.Node.{Node}
+use Rattle.nesl_unify_graph.specs.declared.node.Node.TheVariants.{Free, Same, Int, Bool, Char, Named, SeqOf, Both, Part}
 use Rattle.nesl_unify_graph.specs.declared.instances.Instances.{Instances}
 use Rattle.nesl_unify_graph.specs.declared.form.Item.{Item}
 use Rattle.nesl_unify_graph.specs.declared.walk.Look.{Look}
@@ -30,6 +31,21 @@ IsSizeWithin i ns most p k = IsRootSize i ns p k × (k ≤ most)
 -- the sizes that are known of types at places without links: no more than `most`, and 0 where none is known
 abbrev pub AreSizes : Instances → List Node → ℕ → List ℕ → Type 0
 AreSizes i ns most sizes = (p : ℕ) → 0 < slice_index sizes p → IsSizeWithin i ns most p (slice_index sizes p)
+
+-- k is how many nodes the type of a node has that is made of types of known sizes
+abbrev pub IsMadeSize : List Node → List ℕ → Node → ℕ → Type 0
+IsMadeSize ns sizes Free k = ⊥
+IsMadeSize ns sizes (Same q) k = ⊥
+IsMadeSize ns sizes Int k = ⊥
+IsMadeSize ns sizes Bool k = ⊥
+IsMadeSize ns sizes Char k = ⊥
+IsMadeSize ns sizes (Named m) k = ⊥
+IsMadeSize ns sizes (SeqOf q) k =
+    (0 < slice_index sizes (target ns q)) × (k ≡ 1 + slice_index sizes (target ns q))
+IsMadeSize ns sizes (Both q r) k =
+    (0 < slice_index sizes (target ns q))
+    × ((0 < slice_index sizes (target ns r)) × (k ≡ 1 + slice_index sizes (target ns q) + slice_index sizes (target ns r)))
+IsMadeSize ns sizes (Part r p) k = ⊥
 
 -- the type at a place without a link has one node, and no parts elsewhere
 pub record IsLeaf (i : Instances) (ns : List Node) (p : ℕ) : Type 0 where

@@ -11,7 +11,8 @@ pub enum Source {
     Own(Ty),
 }
 
-/// A type with places of a graph for its variables: variable v has the place `fresh[base + v]`.
+/// A type with places of a graph for its variables: variable v has the place `fresh[base + v]`. Where the base is past
+/// the last place, the type has no variables.
 #[derive(Drop)]
 pub struct Instance {
     pub source: Source,
@@ -26,7 +27,7 @@ pub struct Instances {
     pub fresh: Vec<usize>,
 }
 
-ghost use Rattle.std.specs.Prelude.{◌≡◌, ◌<◌, ◌+◌, length, slice_index};
+ghost use Rattle.std.specs.Prelude.{◌≡◌, ◌<◌, ◌+◌, ◌-◌, false, length, slice_index};
 ghost use Rattle.nesl_unify_graph.specs.Instances.{parts_in, base_in, place_in};
 
 impl Instances {
@@ -39,6 +40,14 @@ impl Instances {
             Source::Shared => self.shared.parts(),
             Source::Own(ty) => ty.parts(),
         }
+    }
+
+    /// Whether an instance may have variables.
+    pub(crate) fn has_places(&self, instance: usize) -> bool
+        requires { instance < length self.now.made.items }
+        ensures { result ≡ false → length self.now.fresh.items - base_in self.now instance ≡ 0 }
+    {
+        self.made[instance].base < self.fresh.len()
     }
 
     /// The place of a variable of an instance.

@@ -68,7 +68,7 @@ pub fn twins_of(instances: &Instances, first: Node, second: Node) -> Option<Twin
 }
 
 /// Adds the pairs of the places of both instances' variables, which are those of this type.
-pub fn match_variables(
+fn match_places(
     instances: &Instances,
     twins: Twins,
     pending: &mut Vec<Pair>,
@@ -89,4 +89,22 @@ pub fn match_variables(
         }
     }
     Ok(())
+}
+
+/// Adds the pairs of the places of both instances' variables. A type without variables isn't gone through.
+pub fn match_variables(
+    instances: &Instances,
+    twins: Twins,
+    pending: &mut Vec<Pair>,
+) -> Result<(), AllocError>
+    requires first { twins.first < length instances.now.made.items }
+    requires second { twins.second < length instances.now.made.items }
+    requires whole { (t : Term) × HaveWhole instances.now twins t }
+    ensures { OnOk result ((t : Term) → HaveWhole instances.now twins t
+        → IsMatched instances.now twins t pending.old.items pending.new.items) }
+{
+    if !instances.has_places(twins.first) {
+        return Ok(());
+    }
+    match_places(instances, twins, pending)
 }

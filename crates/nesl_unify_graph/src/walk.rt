@@ -1,8 +1,9 @@
 //! How large the types of a graph are.
 
-ghost use Rattle.std.specs.Prelude.{◌≡◌, ◌+◌, ◌<◌, ◌++◌, ℕ, [], length, false};
+ghost use Rattle.std.specs.Prelude.{◌≡◌, ◌+◌, ◌<◌, ◌++◌, ℕ, List, [], length, min, slice_index, false};
 ghost use Rattle.std.specs.Prelude.{IsTrue, IfOk, IfSome, IfNone, OnOk, MatchOption};
-ghost use Rattle.nesl_types_shared.specs.Shapes.{IsShapeBelow, shape_type};
+ghost use Rattle.nesl_types_shared.specs.Lists.{parts_of};
+ghost use Rattle.nesl_types_shared.specs.Shapes.{IsShapeBelow, largest, shape_type};
 ghost use Rattle.nesl_types_shared.specs.Term.{Term, nodes as nodes_of};
 ghost use Rattle.nesl_types_shared.specs.Types.{type_at};
 ghost use Rattle.nesl_unify_graph.specs.Instances.{IsPart, AreBelow, base_in, parts_in, place_in};
@@ -10,17 +11,17 @@ ghost use Rattle.nesl_unify_graph.specs.Graph.{Fits, IsFlat, IsRoot, node_at, ta
 ghost use Rattle.nesl_unify_graph.specs.Readings.{AreReadWithin};
 ghost use Rattle.nesl_unify_graph.specs.Forms.{form_parts, IsItem, IsTableOf, IsLarger};
 ghost use Rattle.nesl_unify_graph.specs.Sizes.{look_nodes, look_parts, AreLeafSizes, AreSizes, IsLeaf, IsLeafSize};
-ghost use Rattle.nesl_unify_graph.specs.Sizes.{IsLook, IsRootLook, IsRootSize, IsSizeWithin};
+ghost use Rattle.nesl_unify_graph.specs.Sizes.{IsLook, IsMadeSize, IsRootLook, IsRootSize, IsSizeWithin};
 
 use crate::form::{Form, Item, Settled, root_form, settle};
-use crate::instances::Instances;
+use crate::instances::{Instances, Source};
 use crate::node::Node;
 use crate::table::{node_at, target};
-use nesl_types_shared::Shape;
+use nesl_types_shared::{Shape, Ty};
 use std::alloc::{AllocError, Global};
 
 /// For how many types that are still to be looked at room is taken at first.
-const STACK_ROOM: usize = 64;
+const STACK_ROOM: usize = 32;
 
 /// How many steps are taken over the types of a graph at most. Typing is charged nothing, so its time is bounded here:
 /// what takes more steps is refused as out of memory.
@@ -203,6 +204,73 @@ fn part_nodes(
     Ok(0)
 }
 
+/// A number of nodes that is told as at most `u64::MAX`, or 0 where it may be more.
+fn exact(told: u64) -> u64
+    ensures { (n : ℕ) → told ≡ min n largest → 0 < result → result ≡ n }
+{
+    if told < u64::MAX { told } else { 0 }
+}
+
+/// How many nodes a part of a type has, where it is the whole type, or 0.
+fn whole_nodes(ty: &Ty, part: usize) -> u64
+    ensures { 0 < result → result ≡ nodes_of (type_at (parts_of ty.now) part) }
+{
+    let parts = ty.parts();
+    if part == parts.len() - 1 {
+        exact(ty.nodes())
+    } else {
+        0
+    }
+}
+
+/// How many nodes a part of an instance's type has as it is written there, or 0 where that isn't kept.
+fn written_nodes(instances: &Instances, instance: usize, part: usize) -> u64
+    requires made { instance < length instances.now.made.items }
+    requires within { part < length (parts_in instances.now instance) }
+    ensures { 0 < result → result ≡ nodes_of (type_at (parts_in instances.now instance) part) }
+{
+    match &instances.made[instance].source {
+        Source::Shared => exact(instances.shared.nodes(part)),
+        Source::Own(ty) => whole_nodes(ty, part),
+    }
+}
+
+/// How many nodes a part of an instance's type has, where the type has no variables, or 0 where that isn't known.
+fn closed_nodes(instances: &Instances, instance: usize, part: usize) -> u64
+    requires { IsPart instances.now instance part }
+    ensures { (ns : List Node)
+        → IsLeafSize instances.now ns instance (type_at (parts_in instances.now instance) part) result }
+{
+    if instances.has_places(instance) {
+        return 0;
+    }
+    written_nodes(instances, instance, part)
+}
+
+/// How many nodes a part of an instance's type has, or 0 where that isn't known. Its places are gone through only where
+/// the type may have variables.
+fn leaf_nodes(
+    instances: &Instances,
+    nodes: &[Node],
+    steps: &mut u64,
+    instance: usize,
+    part: usize,
+) -> Result<u64, AllocError>
+    requires below { AreBelow (length nodes.now) instances.now }
+    requires table { IsTableOf instances.now nodes.now }
+    requires flat { IsFlat nodes.now }
+    requires part { IsPart instances.now instance part }
+    ensures { IfOk result
+        (IsLeafSize instances.now nodes.now instance (type_at (parts_in instances.now instance) part)) }
+{
+    let size = closed_nodes(instances, instance, part);
+    if size > 0 {
+        return Ok(size);
+    }
+    take_steps(steps, 1 + part as u64 / PARTS_IN_A_STEP)?;
+    part_nodes(instances, nodes, instance, part)
+}
+
 /// How many nodes a part of an instance's type has, where the types of its variables have one each.
 fn leafy_nodes(
     instances: &Instances,
@@ -218,9 +286,39 @@ fn leafy_nodes(
     ensures { IfOk result (λ r. IfSome r (λ k. (p : ℕ) → node_at nodes.now p ≡ Node.Part instance part
         → IsRootSize instances.now nodes.now p k)) }
 {
-    take_steps(steps, 1 + part as u64 / PARTS_IN_A_STEP)?;
-    let size = part_nodes(instances, nodes, instance, part)?;
+    let size = leaf_nodes(instances, nodes, steps, instance, part)?;
     if size > 0 { Ok(Some(size)) } else { Ok(None) }
+}
+
+/// The size that is known of the type at a place, or 0.
+fn size_at(nodes: &[Node], sizes: &[u64], place: usize) -> u64
+    ensures { result ≡ slice_index sizes.now (target nodes.now place) }
+{
+    match sizes.get(target(nodes, place)) {
+        Some(size) => *size,
+        None => 0,
+    }
+}
+
+/// How many nodes the type of a node has, where it is made of types whose sizes are known, or 0.
+fn made_nodes(nodes: &[Node], sizes: &[u64], node: Node) -> u64
+    ensures { 0 < result → IsMadeSize nodes.now sizes.now node result }
+{
+    match node {
+        Node::SeqOf(item) => one_above(size_at(nodes, sizes, item)),
+        Node::Both(first, second) => {
+            one_more(size_at(nodes, sizes, first), size_at(nodes, sizes, second))
+        }
+        _ => 0,
+    }
+}
+
+/// How many nodes the type of a node has, where that is found by the sizes that are known.
+fn known_above(nodes: &[Node], sizes: &[u64], node: Node) -> Option<u64>
+    ensures { IfSome result (IsMadeSize nodes.now sizes.now node) }
+{
+    let size = made_nodes(nodes, sizes, node);
+    if size > 0 { Some(size) } else { None }
 }
 
 /// How many nodes the type at a place without a link has, where it is found at once.
@@ -250,7 +348,7 @@ fn known_nodes(
             }
             leafy_nodes(instances, nodes, steps, instance, part)
         }
-        _ => Ok(None),
+        node => Ok(known_above(nodes, sizes, node)),
     }
 }
 
