@@ -14,7 +14,7 @@ use Rattle.nesl_reply.specs.Replies as replies
 use Rattle.nesl_session_bindings.specs.Meanings.{variable}
 use Rattle.nesl_session_meaning.specs.declared.limits.Limits.{Limits}
 use Rattle.nesl_session_meaning.specs.State.{State}
-use Rattle.nesl_session_meaning.specs.Finding.{Finding, refused, budget, bound_or_refused, FindsOutcome}
+use Rattle.nesl_session_meaning.specs.Finding.{Finding, refused, budget, FindsRoom, FindsOutcome, too_much_work, a_fault, a_value}
 use Rattle.nesl_eval_meaning.specs.Out.{Out, Budgeted, fits_budget, exceeds_budget, value, fault, stuck, within}
 use Rattle.nesl_eval_meaning.specs.Out.{work_of}
 use Rattle.nesl_eval.specs.declared.outcome.Outcome.{Outcome}
@@ -66,16 +66,22 @@ outcome_answered r b budget n env known e p q h =
     answer_of_outcome r budget (out n known (outside []) e) (subst Q q (subst P p h))
 
 pub comes_value : (limits : Limits) (s : State) (x : Name) (t : Term) (o : Out Value) (u : Value) (w d : ℕ) (f : Finding) → within (budget limits s) o ≡ fits_budget (value u w d)
-    → f ≡ bound_or_refused limits s (replies.bound x u t (record { work = w; depth = d })) w (record { name = x; meaning = variable t u }) → FindsOutcome limits s x t (within (budget limits s) o) f
-comes_value limits s x t o u w d f h e = let P : Budgeted Value → Type 0 = λ y. FindsOutcome limits s x t y f in subst P (sym h) e
+    → FindsRoom limits s (replies.bound x u t (record { work = w; depth = d })) w (record { name = x; meaning = variable t u }) f → FindsOutcome limits s x t (within (budget limits s) o) f
+comes_value limits s x t o u w d f h r = let P : Budgeted Value → Type 0 = λ y. FindsOutcome limits s x t y f in subst P (sym h) (a_value r)
 
 pub comes_fault : (limits : Limits) (s : State) (x : Name) (t : Term) (o : Out Value) (k : Trap) (span : Span) (w : ℕ) (f : Finding) → within (budget limits s) o ≡ fits_budget (fault k span w)
     → f ≡ refused (fault_of k (record { span = span; work = w })) w → FindsOutcome limits s x t (within (budget limits s) o) f
-comes_fault limits s x t o k span w f h e = let P : Budgeted Value → Type 0 = λ y. FindsOutcome limits s x t y f in subst P (sym h) e
+comes_fault limits s x t o k span w f h e =
+    let P : Budgeted Value → Type 0 = λ y. FindsOutcome limits s x t y f in
+    let Q : Finding → Type 0 = FindsOutcome limits s x t (fits_budget (fault k span w)) in
+    subst P (sym h) (subst Q (sym e) a_fault)
 
 pub comes_over : (limits : Limits) (s : State) (x : Name) (t : Term) (o : Out Value) (f : Finding) → within (budget limits s) o ≡ exceeds_budget
     → f ≡ refused (faults.Work (budget limits s)) (budget limits s) → FindsOutcome limits s x t (within (budget limits s) o) f
-comes_over limits s x t o f h e = let P : Budgeted Value → Type 0 = λ y. FindsOutcome limits s x t y f in subst P (sym h) e
+comes_over limits s x t o f h e =
+    let P : Budgeted Value → Type 0 = λ y. FindsOutcome limits s x t y f in
+    let Q : Finding → Type 0 = FindsOutcome limits s x t exceeds_budget in
+    subst P (sym h) (subst Q (sym e) too_much_work)
 
 -- no budget is more than what is left
 pub budget_left : (limits : Limits) (s : State) → budget limits s ≤ s.work_left

@@ -1,8 +1,8 @@
 -- A step from a state that is replayed leaves one that is replayed.
-use Rattle.std.proofs.Common.{◌≡◌, ℕ, List, [], ◌∷◌, ◌++◌, ◌+◌, length, Bool, true, false, Option, Some, None, nat_lt, cond, refl, sym, ap, ◌∙◌, subst}
+use Rattle.std.proofs.Common.{◌≡◌, ℕ, List, [], ◌∷◌, ◌++◌, Bool, true, false, Some, None, refl, sym, ap, ◌∙◌, subst}
 use Rattle.std.specs.Bool.{MatchBool}
 use Rattle.nesl_types_shared.specs.Term.{Term}
-use Rattle.nesl_syntax_tree.specs.Trees.{FormTree}
+use Rattle.nesl_syntax_tree.specs.Trees.{FormTree, Tree}
 use Rattle.nesl_syntax_tree.specs.Trees as trees
 use Rattle.nesl_scalars.specs.declared.trap.Trap.{Trap}
 use Rattle.nesl_scalars.specs.declared.trap.Trap.TheVariants as trap
@@ -10,21 +10,23 @@ use Rattle.nesl_infer.specs.Verdicts.{Verdict, typed, unknown_at, ill_typed, amb
 use Rattle.nesl_eval_meaning.specs.Names.{Name, Value}
 use Rattle.nesl_eval_meaning.specs.Out.{Budgeted, fits_budget, exceeds_budget, value, fault, stuck}
 use Rattle.nesl_reply.specs.declared.fault.Stop.{Stop}
-use Rattle.nesl_reply.specs.declared.fault.Fault.TheVariants as faults
+use Rattle.nesl_reply.specs.declared.fault.Fault.{Fault}
 use Rattle.nesl_reply.specs.Faults.{fault_of}
 use Rattle.nesl_reply.specs.Replies.{Report}
-use Rattle.nesl_session_bindings.specs.Meanings.{Meaning, Binding, elements_of}
-use Rattle.nesl_session_bindings.specs.Known.{put_binding}
+use Rattle.nesl_session_bindings.specs.Meanings.{Binding}
 use Rattle.nesl_session_bindings.specs.declared.refusal.Refusal.{Refusal}
 use Rattle.nesl_session_bindings.specs.declared.refusal.Refusal.TheVariants.{Retype, Taken}
-use Rattle.nesl_session_bindings.specs.Redefinition.{Definition}
+use Rattle.nesl_session_bindings.specs.Redefinition.{Definition, it}
 use Rattle.nesl_session_meaning.specs.declared.limits.Limits.{Limits}
 use Rattle.nesl_session_meaning.specs.State.{State, Log, opening}
 use Rattle.nesl_session_meaning.specs.Reading.{Reading, HasReading, no_form, too_high, form}
 use Rattle.nesl_session_meaning.specs.Reading as readings
 use Rattle.nesl_session_meaning.specs.Response.{Reply, is_memory}
-use Rattle.nesl_session_meaning.specs.Finding.{Finding, unread, reset, part, refused, answered, bound_or_refused, FindsOutcome, IfTyped, IfAccepted, IfFree, FindsDefinition, FindsForm, FindsReading}
-use Rattle.nesl_session_meaning.specs.Step.{Step, Finds, after, reply_of, is_reset, is_full, is_part, longest, most_recorded, recorded_by_reset}
+use Rattle.nesl_session_meaning.specs.Finding.{Finding, unread, reset, part, refused, answered, RefusesTyping, refusal_fault, FindsRoom, FindsDefinition, FindsOutcome, FindsVariable}
+use Rattle.nesl_session_meaning.specs.Finding.{FindsForm, FindsReading, an_unknown_name, no_type, two_types, room, no_room, definition_refused, definition_free}
+use Rattle.nesl_session_meaning.specs.Finding.{too_much_work, a_fault, a_value, variable_untyped, variable_refused, evaluated}
+use Rattle.nesl_session_meaning.specs.Finding.{of_nothing, of_function, of_no_function, of_datatype, of_no_datatype, of_variable, of_expression, of_names, of_budget, of_type, of_no_type, lexical, syntax, nested, has_tree}
+use Rattle.nesl_session_meaning.specs.Step.{Step, Finds, after, reply_of, recorded_by_reset, reset_too_often, resets, transcript_full, too_long, one_part, is_read}
 use Rattle.nesl_session_meaning.specs.Solo.{SessionRuns, Replays, SessionAnswers, Responds}
 
 -- what a session with this state shows
@@ -93,9 +95,6 @@ alone_after old s t line reply r step =
 abbrev IsKept : State → Finding → Type 0
 IsKept s f = is_memory (reply_of s f) ≡ false
 
-kept_is : (s : State) (f g : Finding) → f ≡ g → IsKept s g → IsKept s f
-kept_is s f g e k = let P : Finding → Type 0 = IsKept s in subst P (sym e) k
-
 kept_fault : (s : State) (t : Trap) (stop : Stop) (w : ℕ) → IsKept s (refused (fault_of t stop) w)
 kept_fault s trap.Overflow stop w = refl
 kept_fault s trap.Division stop w = refl
@@ -109,76 +108,65 @@ kept_fault s trap.Stride stop w = refl
 kept_fault s trap.Deep stop w = refl
 kept_fault s trap.Large stop w = refl
 
-kept_if : (s : State) (b : Bool) (f g : Finding) → IsKept s f → IsKept s g → IsKept s (cond b f g)
-kept_if s true f g k l = k
-kept_if s false f g k l = l
+kept_typing : {T : Type 0} (s : State) (v : Verdict T) (k : Fault) → RefusesTyping v k → IsKept s (refused k 0)
+kept_typing s (unknown_at at) k an_unknown_name = refl
+kept_typing s ill_typed k no_type = refl
+kept_typing s ambiguous k two_types = refl
+kept_typing s (typed t) k r = elim r [ ]
 
-kept_bound : (limits : Limits) (s : State) (t : Report) (w : ℕ) (b : Binding) → IsKept s (bound_or_refused limits s t w b)
-kept_bound limits s t w b = kept_if s (nat_lt limits.elements (elements_of (put_binding b.name b.meaning s.bindings))) (refused (faults.Elements w) w) (answered t w (Some b)) refl refl
+kept_refusal : (s : State) (r : Refusal) → IsKept s (refused (refusal_fault r) 0)
+kept_refusal s Retype = refl
+kept_refusal s Taken = refl
 
 -- whatever is found so is kept
 abbrev AreKept : State → (Finding → Type 0) → Type 0
 AreKept s K = (f : Finding) → K f → IsKept s f
 
-kept_comes : (limits : Limits) (s : State) (x : Name) (t : Term) (o : Budgeted Value) → AreKept s (FindsOutcome limits s x t o)
-kept_comes limits s x t exceeds_budget f h = kept_is s f _ h refl
-kept_comes limits s x t (fits_budget (fault k span w)) f h = kept_is s f _ h (kept_fault s k (record { span = span; work = w }) w)
-kept_comes limits s x t (fits_budget (value v w d)) f h = kept_is s f _ h (kept_bound limits s _ w _)
-kept_comes limits s x t (fits_budget stuck) f h = absurd h
+kept_room : (limits : Limits) (s : State) (t : Report) (w : ℕ) (b : Binding) → AreKept s (FindsRoom limits s t w b)
+kept_room limits s t w b f (room le) = refl
+kept_room limits s t w b f (no_room over) = refl
 
-kept_then : {T : Type 0} (s : State) (v : Verdict T) (K : T → Finding → Type 0) → ((t : T) → AreKept s (K t)) → AreKept s (IfTyped v K)
-kept_then s (typed t) K k f h = k t f h
-kept_then s (unknown_at span) K k f h = kept_is s f _ h refl
-kept_then s ill_typed K k f h = kept_is s f _ h refl
-kept_then s ambiguous K k f h = kept_is s f _ h refl
+kept_definition : (limits : Limits) (s : State) (k : Definition) (t : Report) (b : Binding) → AreKept s (FindsDefinition limits s k t b)
+kept_definition limits s k t b f (definition_refused r h) = kept_refusal s r
+kept_definition limits s k t b f (definition_free {f = found} h r) = kept_room limits s t 0 b found r
 
-kept_else : (s : State) (o : Option Refusal) (K : Finding → Type 0) → AreKept s K → AreKept s (IfAccepted o K)
-kept_else s (Some Retype) K k f h = kept_is s f _ h refl
-kept_else s (Some Taken) K k f h = kept_is s f _ h refl
-kept_else s None K k f h = k f h
+kept_outcome : (limits : Limits) (s : State) (x : Name) (t : Term) (o : Budgeted Value) → AreKept s (FindsOutcome limits s x t o)
+kept_outcome limits s x t exceeds_budget f too_much_work = refl
+kept_outcome limits s x t (fits_budget (fault k at w)) f a_fault = kept_fault s k (record { span = at; work = w }) w
+kept_outcome limits s x t (fits_budget (value v w d)) f (a_value {f = found} r) = kept_room limits s _ w _ found r
+kept_outcome limits s x t (fits_budget stuck) f h = elim h [ ]
 
-kept_unless : (s : State) (x : Name) (d : Definition) (K : Finding → Type 0) → AreKept s K → AreKept s (IfFree s x d K)
-kept_unless s x d K k f h = kept_else s h.0 K k f h.2
-
-kept_defines : (limits : Limits) (s : State) (x : Name) (d : Definition) (t : Report) (m : Meaning) → AreKept s (FindsDefinition limits s x d t m)
-kept_defines limits s x d t m = kept_unless s x d _ (λ f h. kept_is s f _ h (kept_bound limits s t 0 (record { name = x; meaning = m })))
+kept_variable : (limits : Limits) (s : State) (x : Name) (e : Tree) → AreKept s (FindsVariable limits s x e)
+kept_variable limits s x e f (variable_untyped {v = v} {k = k} h r) = kept_typing s v k r
+kept_variable limits s x e f (variable_refused r h a) = kept_refusal s r
+kept_variable limits s x e f (evaluated {t = t} {f = found} h a o) = kept_outcome limits s x t _ found o
 
 kept_line : (limits : Limits) (s : State) (l : FormTree) → AreKept s (FindsForm limits s l)
-kept_line limits s trees.nothing f h = kept_is s f _ h refl
-kept_line limits s (trees.function x p g e) f h = kept_then s h.0 _ (λ t. kept_defines limits s x _ _ _) f h.2
-kept_line limits s (trees.datatype x a) f h = kept_then s h.0 _ (λ t. kept_defines limits s x _ _ _) f h.2
-kept_line limits s (trees.bind x e) f h = kept_then s h.0 _ (λ t. kept_unless s x _ _ (kept_comes limits s x t _)) f h.2
-kept_line limits s (trees.evaluate e) f h = kept_then s h.0 _ (λ t. kept_unless s _ _ _ (kept_comes limits s _ t _)) f h.2
-kept_line limits s trees.show_names f h = kept_is s f _ h refl
-kept_line limits s trees.show_budget f h = kept_is s f _ h refl
-kept_line limits s (trees.show_type e) f h = kept_then s h.0 _ (λ t g k. kept_is s g _ k refl) f h.2
+kept_line limits s trees.nothing f of_nothing = refl
+kept_line limits s (trees.function x p g e) f (of_function {f = found} h d) = kept_definition limits s _ _ _ found d
+kept_line limits s (trees.function x p g e) f (of_no_function {v = v} {k = k} h r) = kept_typing s v k r
+kept_line limits s (trees.datatype x a) f (of_datatype {f = found} h d) = kept_definition limits s _ _ _ found d
+kept_line limits s (trees.datatype x a) f (of_no_datatype {v = v} {k = k} h r) = kept_typing s v k r
+kept_line limits s (trees.bind x e) f (of_variable {f = found} h) = kept_variable limits s x e found h
+kept_line limits s (trees.evaluate e) f (of_expression {f = found} h) = kept_variable limits s it e found h
+kept_line limits s trees.show_names f of_names = refl
+kept_line limits s trees.show_budget f of_budget = refl
+kept_line limits s (trees.show_type e) f (of_type h) = refl
+kept_line limits s (trees.show_type e) f (of_no_type {v = v} {k = k} h r) = kept_typing s v k r
 
 kept_reading : (limits : Limits) (s : State) (m : Reading) → AreKept s (FindsReading limits s m)
-kept_reading limits s (readings.no_token at) f h = kept_is s f _ h refl
-kept_reading limits s no_form f h = kept_is s f _ h refl
-kept_reading limits s too_high f h = kept_is s f _ h refl
-kept_reading limits s (form l) f h = kept_line limits s l f h
-
--- a line is looked at for a reset, for room, for its length, for being a part, and then for its reading
-abbrev pub Checks : (is_reset is_full is_long is_part : Bool) (x y z w : Finding) (K : Finding → Type 0) → Finding → Type 0
-Checks a b c d x y z w K f = MatchBool a (f ≡ x) (MatchBool b (f ≡ y) (MatchBool c (f ≡ z) (MatchBool d (f ≡ w) (K f))))
-
-abbrev pub Readings : Limits → State → List ℕ → Finding → Type 0
-Readings limits s line f = (reading : Reading) × HasReading (s.pending ++ line) reading × FindsReading limits s reading f
-
-kept_checks : (a b c d : Bool) (s : State) (x y z w : Finding) (K : Finding → Type 0) → IsKept s x → IsKept s y → IsKept s z → IsKept s w → AreKept s K → AreKept s (Checks a b c d x y z w K)
-kept_checks true b c d s x y z w K hx hy hz hw k f h = kept_is s f x h hx
-kept_checks false true c d s x y z w K hx hy hz hw k f h = kept_is s f y h hy
-kept_checks false false true d s x y z w K hx hy hz hw k f h = kept_is s f z h hz
-kept_checks false false false true s x y z w K hx hy hz hw k f h = kept_is s f w h hw
-kept_checks false false false false s x y z w K hx hy hz hw k f h = k f h
+kept_reading limits s (readings.no_token at) f lexical = refl
+kept_reading limits s no_form f syntax = refl
+kept_reading limits s too_high f nested = refl
+kept_reading limits s (form l) f (has_tree {f = found} h) = kept_line limits s l found h
 
 pub kept : (limits : Limits) (s : State) (line : List ℕ) (f : Finding) → Finds limits s line f → is_memory (reply_of s f) ≡ false
-unfolding Finds
-kept limits s line f h =
-    kept_checks (is_reset line) (is_full limits s line) (nat_lt longest (length s.pending + length line)) (is_part line) s
-    (cond (nat_lt most_recorded (recorded_by_reset s)) (unread faults.Transcript) reset) (unread faults.Transcript) (unread faults.Long) part (Readings limits s line)
-    (kept_if s (nat_lt most_recorded (recorded_by_reset s)) (unread faults.Transcript) reset refl refl) refl refl refl (λ g m. kept_reading limits s m.0 g m.2) f h
+kept limits s line f (reset_too_often e o) = refl
+kept limits s line f (resets e o) = refl
+kept limits s line f (transcript_full e o) = refl
+kept limits s line f (too_long e o p) = refl
+kept limits s line f (one_part e o p q) = refl
+kept limits s line f (is_read {reading = m} {f = found} e o p q h r) = kept_reading limits s m found r
 
 pub step_kept : (limits : Limits) (s t : State) (line : List ℕ) (reply : Reply) → Step limits s line reply t → is_memory reply ≡ false
 unfolding Step

@@ -24,7 +24,7 @@ use Rattle.nesl_session_bindings.specs.Redefinition.{a_variable, RefusesDefiniti
 use Rattle.nesl_session_meaning.specs.declared.limits.Limits.{Limits}
 use Rattle.nesl_session_meaning.specs.State.{State}
 use Rattle.nesl_session_meaning.specs.Reading.{form}
-use Rattle.nesl_session_meaning.specs.Finding.{Finding, FindsReading, FindsOutcome, budget}
+use Rattle.nesl_session_meaning.specs.Finding.{Finding, FindsReading, FindsOutcome, budget, evaluated, of_expression, has_tree}
 
 -- two numbers with `+` between them, wherever they stand
 abbrev pub plus : (s r q : Span) (n m : ℕ) → Tree
@@ -65,4 +65,4 @@ pub finds_number : (limits : Limits) (s : State) (e : Tree) (o : Out Value) (f :
     → out 1000 (environment s.bindings) (outside []) e ≡ o → FindsOutcome limits s it int (within (budget limits s) o) f → FindsReading limits s (form (trees.evaluate e)) f
 finds_number limits s e o f t free c h =
     let P : Out Value → Type 0 = λ x. FindsOutcome limits s it int (within (budget limits s) x) f in
-    (typed int, t, (None, free, subst P (sym c) h))
+    has_tree (of_expression (evaluated t free (subst P (sym c) h)))

@@ -1,13 +1,15 @@
 -- What is found of a line that has a tree: the first check that fails, or what the line does.
-use Rattle.std.specs.Prelude.{◌≡◌, ℕ, [], Option, Some, None, length, sum_by, min, nat_lt, if◌then◌else◌}
+use Rattle.std.specs.Prelude.{ℕ, ◌<◌, ◌≤◌, [], Option, Some, None, length, sum_by, min}
 use Rattle.nesl_types_shared.specs.Term.{Term}
 use Rattle.nesl_syntax_tree.specs.Trees as trees
-use Rattle.nesl_syntax_tree.specs.Trees.{Tree, FormTree}
+use Rattle.nesl_syntax_tree.specs.Trees.{Tree, PatternTree, SignatureTree, TypeTree, FormTree}
+use Rattle.nesl_lex.specs.declared.token.Span.{Span}
+use Rattle.nesl_scalars.specs.declared.trap.Trap.{Trap}
 use Rattle.nesl_builtins.specs.FunctionTypes.{FunctionType}
 use Rattle.nesl_infer.specs.Verdicts.{Verdict, typed, unknown_at, ill_typed, ambiguous}
 use Rattle.nesl_infer.specs.Verdicts.{IsTypeBy, IsFunctionBy, IsContentBy}
 use Rattle.nesl_eval_meaning.specs.Names.{Name, Value, outside}
-use Rattle.nesl_eval_meaning.specs.Out.{Budgeted, fits_budget, exceeds_budget, value, fault, stuck, within}
+use Rattle.nesl_eval_meaning.specs.Out.{Budgeted, fits_budget, exceeds_budget, value, fault, within}
 use Rattle.nesl_eval_meaning.specs.Outcome.{out}
 use Rattle.nesl_reply.specs.declared.fault.Fault.{Fault}
 use Rattle.nesl_reply.specs.declared.fault.Fault.TheVariants as faults
@@ -15,14 +17,14 @@ use Rattle.nesl_reply.specs.Faults.{fault_of}
 use Rattle.nesl_reply.specs.Replies as replies
 use Rattle.nesl_reply.specs.Replies.{Report}
 use Rattle.nesl_session_meaning.specs.declared.limits.Limits.{Limits}
-use Rattle.nesl_session_bindings.specs.Meanings.{Meaning, Binding, variable, function, datatype, elements_of}
+use Rattle.nesl_session_bindings.specs.Meanings.{Binding, variable, function, datatype, elements_of}
 use Rattle.nesl_session_bindings.specs.Known.{known, environment, datatype_count, put_binding}
 use Rattle.nesl_session_bindings.specs.declared.refusal.Refusal.{Refusal}
 use Rattle.nesl_session_bindings.specs.declared.refusal.Refusal.TheVariants.{Retype, Taken}
 use Rattle.nesl_session_bindings.specs.Redefinition.{Definition, a_variable, a_function, a_datatype, RefusesDefinition}
 use Rattle.nesl_session_bindings.specs.Redefinition.{it}
 use Rattle.nesl_session_meaning.specs.State.{State}
-use Rattle.nesl_session_meaning.specs.Reading.{Reading, no_token as stuck_at, no_form, too_high, form}
+use Rattle.nesl_session_meaning.specs.Reading.{Reading, no_token, no_form, too_high, form}
 
 -- what is found of a line
 pub data Finding : Type 0 where
@@ -37,54 +39,67 @@ pub data Finding : Type 0 where
   -- the line is answered, after this amount of work, and may bind a name
   answered : Report → (work : ℕ) → Option Binding → Finding
 
+-- the fault by which a verdict of typing refuses a line
+pub data RefusesTyping {T : Type 0} : Verdict T → Fault → Type 0 where
+  an_unknown_name : {at : Span} → RefusesTyping (unknown_at at) (faults.Unknown at)
+  no_type : RefusesTyping ill_typed faults.IllTyped
+  two_types : RefusesTyping ambiguous faults.Ambiguous
+
+-- the fault of a definition that is refused because of the names that are bound already
+abbrev pub refusal_fault : Refusal → Fault
+refusal_fault Retype = faults.Retype
+refusal_fault Taken = faults.Taken
+
+-- the binding is made, or refused if all names would have more elements than they may
+pub data FindsRoom (limits : Limits) (s : State) (report : Report) (work : ℕ) (b : Binding) : Finding → Type 0 where
+  room :
+      elements_of (put_binding b.name b.meaning s.bindings) ≤ limits.elements
+      → FindsRoom limits s report work b (answered report work (Some b))
+  no_room :
+      limits.elements < elements_of (put_binding b.name b.meaning s.bindings)
+      → FindsRoom limits s report work b (refused (faults.Elements work) work)
+
+-- what is found of a definition, which does no work
+pub data FindsDefinition (limits : Limits) (s : State) (k : Definition) (report : Report) (b : Binding)
+    : Finding → Type 0 where
+  definition_refused :
+      (refusal : Refusal) → RefusesDefinition s.bindings b.name k (Some refusal)
+      → FindsDefinition limits s k report b (refused (refusal_fault refusal) 0)
+  definition_free :
+      {f : Finding} → RefusesDefinition s.bindings b.name k None → FindsRoom limits s report 0 b f
+      → FindsDefinition limits s k report b f
+
 -- the most work that a line may take
 abbrev pub budget : Limits → State → ℕ
 budget limits s = min limits.line_work s.work_left
 
--- the binding is made, or refused if all bindings would have more elements than they may
-abbrev pub bound_or_refused : Limits → State → Report → (work : ℕ) → Binding → Finding
-bound_or_refused limits s t w b =
-    if nat_lt limits.elements (elements_of (put_binding b.name b.meaning s.bindings)) then refused (faults.Elements w) w
-    else answered t w (Some b)
-
 -- What is found where a name is bound to an expression of this type, by the expression's outcome within the budget. An
 -- expression that has a type is never stuck.
-abbrev pub FindsOutcome : Limits → State → Name → Term → Budgeted Value → Finding → Type 0
-FindsOutcome limits s x t exceeds_budget f = f ≡ refused (faults.Work (budget limits s)) (budget limits s)
-FindsOutcome limits s x t (fits_budget (fault k span w)) f =
-    f ≡ refused (fault_of k (record { span = span; work = w })) w
-FindsOutcome limits s x t (fits_budget (value v w d)) f =
-    f ≡ bound_or_refused limits s (replies.bound x v t (record { work = w; depth = d })) w
-    (record { name = x; meaning = variable t v })
-FindsOutcome limits s x t (fits_budget stuck) f = ⊥
+pub data FindsOutcome (limits : Limits) (s : State) (x : Name) (t : Term) : Budgeted Value → Finding → Type 0 where
+  too_much_work : FindsOutcome limits s x t exceeds_budget (refused (faults.Work (budget limits s)) (budget limits s))
+  a_fault :
+      {k : Trap} {at : Span} {w : ℕ}
+      → FindsOutcome limits s x t (fits_budget (fault k at w)) (refused (fault_of k (record { span = at; work = w })) w)
+  a_value :
+      {v : Value} {w d : ℕ} {f : Finding}
+      → FindsRoom limits s (replies.bound x v t (record { work = w; depth = d })) w
+      (record { name = x; meaning = variable t v }) f
+      → FindsOutcome limits s x t (fits_budget (value v w d)) f
 
--- the line is refused by the fault of a verdict, or else this is found with the type
-abbrev pub IfTyped : {T : Type 0} → Verdict T → (T → Finding → Type 0) → Finding → Type 0
-IfTyped (typed t) K f = K t f
-IfTyped (unknown_at span) K f = f ≡ refused (faults.Unknown span) 0
-IfTyped ill_typed K f = f ≡ refused faults.IllTyped 0
-IfTyped ambiguous K f = f ≡ refused faults.Ambiguous 0
-
--- the line is refused by the refusal of a definition, or else this is found
-abbrev pub IfAccepted : Option Refusal → (Finding → Type 0) → Finding → Type 0
-IfAccepted (Some Retype) K f = f ≡ refused faults.Retype 0
-IfAccepted (Some Taken) K f = f ≡ refused faults.Taken 0
-IfAccepted None K f = K f
-
--- what is found of a definition, if the names that are bound already don't refuse it
-abbrev pub IfFree : State → Name → Definition → (Finding → Type 0) → Finding → Type 0
-IfFree s x k K f = (refusal : Option Refusal) × RefusesDefinition s.bindings x k refusal × IfAccepted refusal K f
-
--- `x = e;`
-abbrev pub FindsVariable : Limits → State → Name → Tree → Finding → Type 0
-FindsVariable limits s x e f =
-    (v : Verdict Term) × IsTypeBy (known s.bindings) e v × IfTyped v (λ t. IfFree s x (a_variable t)
-    (FindsOutcome limits s x t (within (budget limits s) (out 1000 (environment s.bindings) (outside []) e)))) f
-
--- a definition does no work; it binds its name, and this is reported
-abbrev pub FindsDefinition : Limits → State → Name → Definition → Report → Meaning → Finding → Type 0
-FindsDefinition limits s x k t m =
-    IfFree s x k (λ f. f ≡ bound_or_refused limits s t 0 (record { name = x; meaning = m }))
+-- what is found of `x = e;`
+pub data FindsVariable (limits : Limits) (s : State) (x : Name) (e : Tree) : Finding → Type 0 where
+  variable_untyped :
+      {v : Verdict Term} {k : Fault} → IsTypeBy (known s.bindings) e v → RefusesTyping v k
+      → FindsVariable limits s x e (refused k 0)
+  variable_refused :
+      {t : Term} (refusal : Refusal) → IsTypeBy (known s.bindings) e (typed t)
+      → RefusesDefinition s.bindings x (a_variable t) (Some refusal)
+      → FindsVariable limits s x e (refused (refusal_fault refusal) 0)
+  evaluated :
+      {t : Term} {f : Finding} → IsTypeBy (known s.bindings) e (typed t)
+      → RefusesDefinition s.bindings x (a_variable t) None
+      → FindsOutcome limits s x t (within (budget limits s) (out 1000 (environment s.bindings) (outside []) e)) f
+      → FindsVariable limits s x e f
 
 -- the work that is left, and how much of each limit is used
 abbrev pub budget_report : Limits → State → Report
@@ -93,29 +108,43 @@ budget_report limits s = replies.budget s.work_left
     (record { used = length s.transcript; limit = limits.transcript_lines })
     (record { used = sum_by length s.transcript; limit = limits.transcript_bytes })
 
--- the line is answered by this report, and binds no name
-abbrev pub FindsReport : Report → Finding → Type 0
-FindsReport t f = f ≡ answered t 0 None
-
 -- what is found of a line with this tree; an expression alone is bound to `it`
-abbrev pub FindsForm : Limits → State → FormTree → Finding → Type 0
-FindsForm limits s trees.nothing f = FindsReport replies.blank f
-FindsForm limits s (trees.function x p g e) f =
-    (v : Verdict FunctionType) × IsFunctionBy (known s.bindings) x p g e v × IfTyped v (λ t.
-    FindsDefinition limits s x (a_function t) (replies.function x t.argument t.result t.classes) (function t p e)) f
-FindsForm limits s (trees.datatype x a) f =
-    (v : Verdict Term) × IsContentBy (known s.bindings) a v × IfTyped v (λ t.
-    FindsDefinition limits s x a_datatype (replies.datatype x t) (datatype (datatype_count s.bindings) t)) f
-FindsForm limits s (trees.bind x e) f = FindsVariable limits s x e f
-FindsForm limits s (trees.evaluate e) f = FindsVariable limits s it e f
-FindsForm limits s trees.show_names f = FindsReport replies.names f
-FindsForm limits s trees.show_budget f = FindsReport (budget_report limits s) f
-FindsForm limits s (trees.show_type e) f =
-    (v : Verdict Term) × IsTypeBy (known s.bindings) e v × IfTyped v (λ t. FindsReport (replies.shown t)) f
+pub data FindsForm (limits : Limits) (s : State) : FormTree → Finding → Type 0 where
+  of_nothing : FindsForm limits s trees.nothing (answered replies.blank 0 None)
+  of_function :
+      {x : Name} {p : PatternTree} {g : Option SignatureTree} {e : Tree} {t : FunctionType} {f : Finding}
+      → IsFunctionBy (known s.bindings) x p g e (typed t)
+      → FindsDefinition limits s (a_function t) (replies.function x t.argument t.result t.classes)
+      (record { name = x; meaning = function t p e }) f
+      → FindsForm limits s (trees.function x p g e) f
+  of_no_function :
+      {x : Name} {p : PatternTree} {g : Option SignatureTree} {e : Tree} {v : Verdict FunctionType} {k : Fault}
+      → IsFunctionBy (known s.bindings) x p g e v → RefusesTyping v k
+      → FindsForm limits s (trees.function x p g e) (refused k 0)
+  of_datatype :
+      {x : Name} {a : TypeTree} {t : Term} {f : Finding} → IsContentBy (known s.bindings) a (typed t)
+      → FindsDefinition limits s a_datatype (replies.datatype x t)
+      (record { name = x; meaning = datatype (datatype_count s.bindings) t }) f
+      → FindsForm limits s (trees.datatype x a) f
+  of_no_datatype :
+      {x : Name} {a : TypeTree} {v : Verdict Term} {k : Fault}
+      → IsContentBy (known s.bindings) a v → RefusesTyping v k → FindsForm limits s (trees.datatype x a) (refused k 0)
+  of_variable :
+      {x : Name} {e : Tree} {f : Finding} → FindsVariable limits s x e f → FindsForm limits s (trees.bind x e) f
+  of_expression :
+      {e : Tree} {f : Finding} → FindsVariable limits s it e f → FindsForm limits s (trees.evaluate e) f
+  of_names : FindsForm limits s trees.show_names (answered replies.names 0 None)
+  of_budget : FindsForm limits s trees.show_budget (answered (budget_report limits s) 0 None)
+  of_type :
+      {e : Tree} {t : Term} → IsTypeBy (known s.bindings) e (typed t)
+      → FindsForm limits s (trees.show_type e) (answered (replies.shown t) 0 None)
+  of_no_type :
+      {e : Tree} {v : Verdict Term} {k : Fault} → IsTypeBy (known s.bindings) e v → RefusesTyping v k
+      → FindsForm limits s (trees.show_type e) (refused k 0)
 
 -- what is found of a line, by its reading
-abbrev pub FindsReading : Limits → State → Reading → Finding → Type 0
-FindsReading limits s (stuck_at at) f = f ≡ refused (faults.Lexical at) 0
-FindsReading limits s no_form f = f ≡ refused faults.Syntax 0
-FindsReading limits s too_high f = f ≡ refused faults.Nested 0
-FindsReading limits s (form l) f = FindsForm limits s l f
+pub data FindsReading (limits : Limits) (s : State) : Reading → Finding → Type 0 where
+  lexical : {at : ℕ} → FindsReading limits s (no_token at) (refused (faults.Lexical at) 0)
+  syntax : FindsReading limits s no_form (refused faults.Syntax 0)
+  nested : FindsReading limits s too_high (refused faults.Nested 0)
+  has_tree : {l : FormTree} {f : Finding} → FindsForm limits s l f → FindsReading limits s (form l) f

@@ -1,9 +1,8 @@
 -- One line of a session: what is found, what is answered, and what changes.
-use Rattle.std.specs.Prelude.{◌≡◌, ℕ, ◌+◌, ◌-◌, ◌^◌, ◌==◌, List, [], ◌∷◌, ◌++◌, Bool, false, true, ◌||◌}
+use Rattle.std.specs.Prelude.{◌≡◌, ℕ, ◌<◌, ◌≤◌, ◌+◌, ◌-◌, ◌^◌, ◌==◌, List, [], ◌∷◌, ◌++◌, Bool, false, true, ◌||◌}
 use Rattle.std.specs.Prelude.{Option, Some, None}
-use Rattle.std.specs.Prelude.{length, take, sum_by, nat_lt, nat_le, if◌then◌else◌, codes}
+use Rattle.std.specs.Prelude.{length, take, sum_by, nat_lt, nat_le, codes}
 use Rattle.std.specs.Str.{bytes_eq}
-use Rattle.std.specs.Bool.{MatchBool}
 use Rattle.nesl_reply.specs.declared.fault.Fault.TheVariants as faults
 use Rattle.nesl_reply.specs.Replies as replies
 use Rattle.nesl_session_meaning.specs.declared.limits.Limits.{Limits}
@@ -45,17 +44,26 @@ is_part (b ∷ c ∷ bs) = is_part (c ∷ bs)
 abbrev pub with_part : State → List ℕ → List ℕ
 with_part s line = s.pending ++ (take (length line - 1) line ++ codes " ")
 
--- What is found of a line. A reset is looked for first. Then the first check that fails is found, or else what the
--- reading of the text asks for. The text is that of the parts before it and of the line. A line that is refused unread
--- needs no reading.
-unfoldable pub Finds : Limits → State → List ℕ → Finding → Type 0
-Finds limits s line finding =
-    MatchBool (is_reset line)
-    (finding ≡ (if nat_lt most_recorded (recorded_by_reset s) then unread faults.Transcript else reset))
-    (MatchBool (is_full limits s line) (finding ≡ unread faults.Transcript)
-    (MatchBool (nat_lt longest (length s.pending + length line)) (finding ≡ unread faults.Long)
-    (MatchBool (is_part line) (finding ≡ part)
-    ((reading : Reading) × HasReading (s.pending ++ line) reading × FindsReading limits s reading finding))))
+-- What is found of a line: the first of these checks that fails, in this order, or else what the reading of the text
+-- asks for. The text is that of the parts before it and of the line. A line that is refused unread needs no reading.
+pub data Finds (limits : Limits) (s : State) (line : List ℕ) : Finding → Type 0 where
+  reset_too_often :
+      is_reset line ≡ true → most_recorded < recorded_by_reset s
+      → Finds limits s line (unread faults.Transcript)
+  resets : is_reset line ≡ true → recorded_by_reset s ≤ most_recorded → Finds limits s line reset
+  transcript_full :
+      is_reset line ≡ false → is_full limits s line ≡ true → Finds limits s line (unread faults.Transcript)
+  too_long :
+      is_reset line ≡ false → is_full limits s line ≡ false → longest < length s.pending + length line
+      → Finds limits s line (unread faults.Long)
+  one_part :
+      is_reset line ≡ false → is_full limits s line ≡ false → length s.pending + length line ≤ longest
+      → is_part line ≡ true → Finds limits s line part
+  is_read :
+      {reading : Reading} {f : Finding}
+      → is_reset line ≡ false → is_full limits s line ≡ false → length s.pending + length line ≤ longest
+      → is_part line ≡ false → HasReading (s.pending ++ line) reading → FindsReading limits s reading f
+      → Finds limits s line f
 
 abbrev pub with_line : List ℕ → State → State
 with_line line s = record s { transcript = s.transcript ++ line ∷ [] }

@@ -8,9 +8,8 @@ use Rattle.nesl_eval_top_level.specs.Stored as code
 use Rattle.nesl_session_bindings.specs.Known.{environment, put_binding}
 use Rattle.nesl_session_bindings.specs.Meanings.{variable, elements_of}
 use Rattle.nesl_session.specs.Inside.{state_of}
-use Rattle.nesl_session_meaning.specs.Finding.{budget, refused}
+use Rattle.nesl_session_meaning.specs.Finding.{budget, refused, room, no_room}
 use Rattle.nesl_eval.specs.declared.outcome.Outcome.TheVariants.{Done}
-use Rattle.nesl_reply.specs.Replies as replies
 use Rattle.nesl_reply.specs.declared.fault.Fault.TheVariants as faults
 use Rattle.nesl_session.proofs.Comes.{outcome_answered, comes_value, comes_fault, comes_over, budget_left, answer_fault, answer_over}
 use Rattle.nesl_session.proofs.Rooms.{many_named, few_named, room_named}
@@ -25,7 +24,7 @@ returns-then-not-fits_variable-clause-found g c =
     let o = out 1000 (environment s.bindings) (outside []) (tree_of_exp c.args.exp.now) in
     let h = outcome_answered (Done c.in-Done.value c.in-Done.work c.in-Done.depth) c.min-budget.result (budget c.args.standing.now.limits (state_of c.args.standing.now)) 1000 (code.environment c.environment.result.now) (environment (state_of c.args.standing.now).bindings) (tree_of_exp c.args.exp.now) c.min-budget.ensures c.environment.ensures c.in-Done.ensures (c.typed_never_stuck.ensures (tree_of_exp c.args.exp.now) c.args.ty c.requires.typed 1000) in
     comes_value l s x t o (tree_of c.in-Done.value) c.in-Done.work c.in-Done.depth _ h.0
-    (many_named l s (replies.bound x (tree_of c.in-Done.value) t (record { work = c.in-Done.work; depth = c.in-Done.depth })) c.in-Done.work c.as_slice.result.now x (variable t (tree_of c.in-Done.value)) c.as_slice.ensures.value (c.if-not-fits_variable.ensures t))
+    (no_room (many_named s l.elements c.as_slice.result.now x (variable t (tree_of c.in-Done.value)) c.as_slice.ensures.value (c.if-not-fits_variable.ensures t)))
 
 pub returns-then-not-fits_variable-clause-charges : goal.returns-then-not-fits_variable-clause-charges
 returns-then-not-fits_variable-clause-charges g c =
@@ -48,7 +47,7 @@ returns-in_ok-kept-in-Done-clause-found g c =
     let kept = c.in_ok-kept-in-Done.ensures in
     let P : Value → Type 0 = λ u. true ≡ leb (elements_of (put_binding c.as_slice.result.now (variable t u) s.bindings)) l.elements in
     comes_value l s x t o (tree_of c.in_ok-kept-in-Done.kept) c.in-Done.work c.in-Done.depth _ (h.0 ∙ ap (λ u. fits_budget (value u c.in-Done.work c.in-Done.depth)) (sym kept))
-    (few_named l s (replies.bound x (tree_of c.in_ok-kept-in-Done.kept) t (record { work = c.in-Done.work; depth = c.in-Done.depth })) c.in-Done.work c.as_slice.result.now x (variable t (tree_of c.in_ok-kept-in-Done.kept)) c.as_slice.ensures.value (subst P (sym kept) (c.if-not-fits_variable.ensures t)))
+    (room (few_named s l.elements c.as_slice.result.now x (variable t (tree_of c.in_ok-kept-in-Done.kept)) c.as_slice.ensures.value (subst P (sym kept) (c.if-not-fits_variable.ensures t))))
 
 pub returns-in_ok-kept-in-Done-clause-charges : goal.returns-in_ok-kept-in-Done-clause-charges
 returns-in_ok-kept-in-Done-clause-charges g c =

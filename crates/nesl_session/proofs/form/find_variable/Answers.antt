@@ -1,11 +1,10 @@
-use Rattle.std.proofs.Common.{[], None, Ok, Err, subst}
+use Rattle.std.proofs.Common.{[], Ok, Err, subst}
 use Rattle.nesl_syntax_tree.specs.Views.{tree_of}
-use Rattle.nesl_infer.specs.Verdicts.{typed}
 use Rattle.nesl_eval_meaning.specs.Names.{Name, outside}
 use Rattle.nesl_eval_meaning.specs.Out.{within}
 use Rattle.nesl_eval_meaning.specs.Outcome.{out}
 use Rattle.nesl_session_bindings.specs.Known.{environment}
-use Rattle.nesl_session_meaning.specs.Finding.{Finding, budget, FindsOutcome, FindsVariable}
+use Rattle.nesl_session_meaning.specs.Finding.{Finding, budget, FindsOutcome, FindsVariable, evaluated}
 use Rattle.nesl_session.specs.Found.{finding_of}
 use Rattle.nesl_session.specs.Forms.{IsVariable}
 use Rattle.nesl_session.proofs.Verdicts.{stopped_finds, stopped_charges, found_answers}
@@ -23,7 +22,7 @@ returns-in-Ok-clause-found g c =
     let h = subst P c.as_slice.ensures.value c.in-Ok.ensures in
     let K : Finding → Type 0 = FindsOutcome l s x t (within (budget l s) (out 1000 (environment s.bindings) (outside []) e)) in
     found_answers (λ f. K (finding_of f)) (λ f. FindsVariable l s x e (finding_of f)) c.find_value.result
-    (λ f k. (typed t, h.0, (None, h.1, k))) c.find_value.ensures.found
+    (λ f k. evaluated h.0 h.1 k) c.find_value.ensures.found
 
 pub returns-in-Err-clause-found : goal.returns-in-Err-clause-found
 returns-in-Err-clause-found g c =

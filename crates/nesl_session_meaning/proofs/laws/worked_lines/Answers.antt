@@ -19,6 +19,8 @@ use Rattle.nesl_session_meaning.specs.declared.limits.Limits.{Limits}
 use Rattle.nesl_session_meaning.specs.State.{State, empty}
 use Rattle.nesl_session_meaning.specs.Reading.{no_token, no_form, form}
 use Rattle.nesl_session_meaning.specs.Finding.{Finding, FindsReading, FindsOutcome, budget, reset, part, refused, answered, budget_report}
+use Rattle.nesl_session_meaning.specs.Finding.{room, no_room, a_value, too_much_work, variable_untyped, an_unknown_name}
+use Rattle.nesl_session_meaning.specs.Finding.{of_nothing, of_names, of_budget, of_expression, lexical, syntax, has_tree}
 use Rattle.nesl_session_meaning.specs.Step.{after, reply_of}
 use Rattle.nesl_session_meaning.specs.Worked.{ample}
 use Rattle.nesl_session_meaning.proofs.Typed.{plus, plus_type, two, finds_number}
@@ -29,31 +31,31 @@ pub returns-clause-lexical : goal.returns-clause-lexical
 unfolding digits
 returns-clause-lexical c =
     answered_so ample (codes "1 @ 2;") (codes "fault lexical at 2 (work 0)") 1000 _ _
-    (step_reading ample (empty ample) (codes "1 @ 2;") (no_token 2) (refused (faults.Lexical 2) 0) refl refl refl refl (unread_at c.reading_computes.ensures (codes "1 @ 2;") 2 refl) refl) refl refl
+    (step_reading ample (empty ample) (codes "1 @ 2;") (no_token 2) (refused (faults.Lexical 2) 0) refl refl refl refl (unread_at c.reading_computes.ensures (codes "1 @ 2;") 2 refl) lexical) refl refl
 
 pub returns-clause-syntax : goal.returns-clause-syntax
 returns-clause-syntax c =
     answered_so ample (codes "1; 2;") (codes "fault syntax (work 0)") 1000 _ _
-    (step_reading ample (empty ample) (codes "1; 2;") no_form (refused faults.Syntax 0) refl refl refl refl (unformed c.reading_computes.ensures c.form_computes.ensures (codes "1; 2;") refl refl) refl) refl refl
+    (step_reading ample (empty ample) (codes "1; 2;") no_form (refused faults.Syntax 0) refl refl refl refl (unformed c.reading_computes.ensures c.form_computes.ensures (codes "1; 2;") refl refl) syntax) refl refl
 
 pub returns-clause-comment : goal.returns-clause-comment
 returns-clause-comment c =
     answered_so ample (codes "% note %") (codes "ok") 1000 _ _
     (step_reading ample (empty ample) (codes "% note %") (form trees.nothing) (answered replies.blank 0 None) refl refl refl refl
-    (formed c.reading_computes.ensures c.form_computes.ensures (codes "% note %") trees.nothing refl refl (lit≤ tt)) refl) refl refl
+    (formed c.reading_computes.ensures c.form_computes.ensures (codes "% note %") trees.nothing refl refl (lit≤ tt)) (has_tree of_nothing)) refl refl
 
 pub returns-clause-names : goal.returns-clause-names
 returns-clause-names c =
     answered_so ample (codes ":names") (codes "names:") 1000 _ _
     (step_reading ample (empty ample) (codes ":names") (form trees.show_names) (answered replies.names 0 None) refl refl refl refl
-    (formed c.reading_computes.ensures c.form_computes.ensures (codes ":names") trees.show_names refl refl (lit≤ tt)) refl) refl refl
+    (formed c.reading_computes.ensures c.form_computes.ensures (codes ":names") trees.show_names refl refl (lit≤ tt)) (has_tree of_names)) refl refl
 
 pub returns-clause-budget : goal.returns-clause-budget
 unfolding digits used_text
 returns-clause-budget c =
     answered_so ample (codes ":budget") (codes "budget: work 1000, elements 0 of 100, lines 0 of 100, bytes 0 of 1000") 1000 _ _
     (step_reading ample (empty ample) (codes ":budget") (form trees.show_budget) (answered (budget_report ample (empty ample)) 0 None) refl refl refl refl
-    (formed c.reading_computes.ensures c.form_computes.ensures (codes ":budget") trees.show_budget refl refl (lit≤ tt)) refl) refl refl
+    (formed c.reading_computes.ensures c.form_computes.ensures (codes ":budget") trees.show_budget refl refl (lit≤ tt)) (has_tree of_budget)) refl refl
 
 abbrev at : ℕ → ℕ → Span
 at from to = record { start = from; end = to }
@@ -64,7 +66,7 @@ returns-clause-unknown c =
     let line : FormTree = trees.evaluate (trees.node (at 0 1) (trees.variable (codes "x"))) in
     answered_so ample (codes "x;") (codes "fault unknown at 0..1 (work 0)") 1000 _ _
     (step_reading ample (empty ample) (codes "x;") (form line) (refused (faults.Unknown (at 0 1)) 0) refl refl refl refl
-    (formed c.reading_computes.ensures c.form_computes.ensures (codes "x;") line refl refl (lit≤ tt)) (unknown_at (at 0 1), refl, refl)) refl refl
+    (formed c.reading_computes.ensures c.form_computes.ensures (codes "x;") line refl refl (lit≤ tt)) (has_tree (of_expression (variable_untyped {v = unknown_at (at 0 1)} refl an_unknown_name)))) refl refl
 
 -- one and one, of which `it` becomes two
 abbrev sum : FormTree
@@ -89,7 +91,7 @@ unfolding digits
 returns-clause-value c =
     answered_so ample (codes "1 + 1;") (codes "it = 2 : int (work 3, depth 3)") 997 _ _
     (step_reading ample (empty ample) (codes "1 + 1;") (form sum) summed refl refl refl refl
-    (formed c.reading_computes.ensures c.form_computes.ensures (codes "1 + 1;") sum refl refl (lit≤ tt)) (finds_sum ample (empty ample) summed refl refl)) refl refl
+    (formed c.reading_computes.ensures c.form_computes.ensures (codes "1 + 1;") sum refl refl (lit≤ tt)) (finds_sum ample (empty ample) summed refl (a_value (room (lit≤ tt))))) refl refl
 
 pub returns-clause-work : goal.returns-clause-work
 unfolding digits
@@ -98,7 +100,7 @@ returns-clause-work c =
     answered_so tight (codes "1 + 1;") (codes "fault work (work 2)") 998 _ _
     (step_reading tight (empty tight) (codes "1 + 1;") (form sum) (refused (faults.Work 2) 2) refl refl refl refl
     (formed c.reading_computes.ensures c.form_computes.ensures (codes "1 + 1;") sum refl refl (lit≤ tt))
-    (finds_sum tight (empty tight) (refused (faults.Work 2) 2) refl refl)) refl refl
+    (finds_sum tight (empty tight) (refused (faults.Work 2) 2) refl too_much_work)) refl refl
 
 pub returns-clause-elements : goal.returns-clause-elements
 unfolding digits
@@ -107,7 +109,7 @@ returns-clause-elements c =
     answered_so tight (codes "1 + 1;") (codes "fault elements (work 3)") 997 _ _
     (step_reading tight (empty tight) (codes "1 + 1;") (form sum) (refused (faults.Elements 3) 3) refl refl refl refl
     (formed c.reading_computes.ensures c.form_computes.ensures (codes "1 + 1;") sum refl refl (lit≤ tt))
-    (finds_sum tight (empty tight) (refused (faults.Elements 3) 3) refl refl)) refl refl
+    (finds_sum tight (empty tight) (refused (faults.Elements 3) 3) refl (a_value (no_room (lit≤ tt))))) refl refl
 
 pub returns-clause-parts : goal.returns-clause-parts
 unfolding digits
@@ -116,7 +118,7 @@ returns-clause-parts c =
     let first = step_part ample (empty ample) (codes "1 +\\") refl refl refl refl in
     let second =
     step_reading ample mid (codes "1;") (form sum) summed refl refl refl refl (formed c.reading_computes.ensures c.form_computes.ensures (codes "1 + 1;") sum refl refl (lit≤ tt))
-    (finds_sum ample mid summed refl refl) in
+    (finds_sum ample mid summed refl (a_value (room (lit≤ tt)))) in
     (reply_of (empty ample) part ∷ reply_of mid summed ∷ [], after (codes "1;") mid summed, (mid, first, (after (codes "1;") mid summed, second, refl)), refl, refl)
 
 pub returns-clause-reset : goal.returns-clause-reset
@@ -130,11 +132,11 @@ returns-clause-reset c =
     let last : State = after line cleared (refused (faults.Work 2) 2) in
     let first =
     step_reading small (empty small) line (form sum) summed refl refl refl refl means
-    (finds_sum small (empty small) summed refl refl) in
+    (finds_sum small (empty small) summed refl (a_value (room (lit≤ tt)))) in
     let second = step_reset small one (codes ":reset") refl refl in
     let third =
     step_reading small cleared line (form sum) (refused (faults.Work 2) 2) refl refl refl refl means
-    (finds_sum small cleared (refused (faults.Work 2) 2) refl refl) in
+    (finds_sum small cleared (refused (faults.Work 2) 2) refl too_much_work) in
     (reply_of (empty small) summed ∷ reply_of one reset ∷ reply_of cleared (refused (faults.Work 2) 2) ∷ [], last, (one, first, (cleared, second, (last, third, refl))), refl, refl)
 
 pub returns-clause-transcript : goal.returns-clause-transcript

@@ -7,7 +7,7 @@ use Rattle.nesl_session_bindings.specs.Meanings.{datatype, elements_of}
 use Rattle.nesl_session_bindings.specs.Known.{datatype_count, put_binding}
 use Rattle.nesl_session_meaning.specs.Finding.{FindsForm}
 use Rattle.nesl_session.specs.Forms.{IsDatatype}
-use Rattle.nesl_session.proofs.Verdicts.{datatype_finds, room, stopped_finds, stopped_charges}
+use Rattle.nesl_session.proofs.Verdicts.{datatype_finds, fits, stopped_finds, stopped_charges}
 use Rattle.nesl_session.proofs.forms.written.find_datatype.Goals as goal
 
 pub returns-in-Ok-clause-found : goal.returns-in-Ok-clause-found
@@ -22,8 +22,8 @@ returns-in-Ok-clause-charges c =
     let a = type_tree c.args.written in
     let P : Name → Type 0 = λ y. IsDatatype c.args.limits bs y a (Ok c.in-Ok.content) in
     let h = subst P c.as_slice.ensures.value c.in-Ok.ensures in
-    let fits = room (elements_of (put_binding c.args.name.items (datatype (datatype_count bs) c.in-Ok.content) bs)) c.args.limits.elements (omega arith) h.2 in
-    λ s. (omega arith, (c.next_tag.ensures, (a, h.0), h.1, fits))
+    let within = fits (elements_of (put_binding c.args.name.items (datatype (datatype_count bs) c.in-Ok.content) bs)) c.args.limits.elements (omega arith) h.2 in
+    λ s. (omega arith, (c.next_tag.ensures, (a, h.0), h.1, within))
 
 pub returns-in-Err-clause-found : goal.returns-in-Err-clause-found
 returns-in-Err-clause-found c =

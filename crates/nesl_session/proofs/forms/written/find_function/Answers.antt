@@ -8,7 +8,7 @@ use Rattle.nesl_session_bindings.specs.Meanings.{function, elements_of}
 use Rattle.nesl_session_bindings.specs.Known.{put_binding}
 use Rattle.nesl_session_meaning.specs.Finding.{FindsForm}
 use Rattle.nesl_session.specs.Forms.{IsFunction}
-use Rattle.nesl_session.proofs.Verdicts.{function_finds, room, stopped_finds, stopped_charges}
+use Rattle.nesl_session.proofs.Verdicts.{function_finds, fits, stopped_finds, stopped_charges}
 use Rattle.nesl_session.proofs.forms.written.find_function.Goals as goal
 
 pub returns-in-Ok-clause-found : goal.returns-in-Ok-clause-found
@@ -29,8 +29,8 @@ returns-in-Ok-clause-charges c =
     let e = tree_of c.args.written.body in
     let P : Name → Type 0 = λ y. IsFunction c.args.limits bs y p g e (Ok c.in-Ok.scheme) in
     let h = subst P c.as_slice.ensures.value c.in-Ok.ensures in
-    let fits = room (elements_of (put_binding x (function (function_type c.in-Ok.scheme) p e) bs)) c.args.limits.elements (omega arith) h.2 in
-    λ s. (omega arith, ((g, h.0), h.1, fits))
+    let within = fits (elements_of (put_binding x (function (function_type c.in-Ok.scheme) p e) bs)) c.args.limits.elements (omega arith) h.2 in
+    λ s. (omega arith, ((g, h.0), h.1, within))
 
 pub returns-in-Err-clause-found : goal.returns-in-Err-clause-found
 returns-in-Err-clause-found c =
