@@ -6,7 +6,7 @@ use Rattle.nesl_session_meaning.specs.State.{Log, empty_log}
 use Rattle.nesl_house.specs.declared.roster.NewFault.TheVariants as refusal
 use Rattle.nesl_house.specs.Roster.{IsRoster, IsRefused, new_house}
 use Rattle.nesl_house.specs.Runs.{Account}
-use Rattle.nesl_line.specs.Batch.{IsBatch}
+use Rattle.nesl_line.specs.Batch.{AnswersAll, IsBatch}
 use Rattle.nesl_line.specs.Hinted.{IsHintedBatch}
 use Rattle.nesl_line.specs.declared.exchange.End.{End}
 use Rattle.nesl_line.specs.declared.exchange.End.TheVariants.{Input, ReadFault, WriteFault}
@@ -48,6 +48,10 @@ Served is_hinted end users left left' held held' =
     IsRoster users
     × ((count : ℕ) × ((house : List Account)
     × Batched is_hinted end count left left' held held' (new_house limits users) house))
+
+-- a house in which each of these users has an empty session answered all lines of a text by these replies
+abbrev pub IsAnsweredAnew : (users : List (List ℕ)) → (text replies : List ℕ) → Type 0
+IsAnsweredAnew users text replies = (house : List Account) × AnswersAll (new_house limits users) text replies house
 
 -- a prompt over an empty session answered the lines that were read, until this end
 abbrev pub Prompted : (plain : Bool) → End → (left left' held held' : Option (List ℕ)) → Type 0

@@ -1,10 +1,15 @@
 //! The costs of a batch's last line, for several values of `n`.
-ghost use Rattle.std.specs.Prelude.{◌≡◌, ℕ, Bool, List, Option, IfErr, false, map};
-ghost use Rattle.nesl_cli.specs.Program.{BatchFails};
+ghost use Rattle.std.specs.Prelude.{◌≡◌, ℕ, Bool, List, Option, IfErr, IfOk, false, map};
+ghost use Rattle.nesl_line.specs.Batch.{AnswersAll};
+ghost use Rattle.nesl_cli.specs.Program.{BatchFails, IsAnsweredAnew};
 
 use crate::failure::Failure;
-use crate::run::{open_house, run_in_new_house};
-use nesl_line::device::{Device, Sink, Source};
+use crate::run::open_house;
+use linked_list_allocator::LocalHeap;
+use nesl_house::house::House;
+use nesl_house::manner::{InHeap, Plainly};
+use nesl_line::batch::answer_text;
+use nesl_line::device::{Sink, Source};
 use nesl_line::exchange::MOST_READS;
 use nesl_line::tell;
 use std::alloc::{AllocError, Global};
@@ -165,20 +170,32 @@ fn make_script(alloc: Global, batch: &Batch<'_>, value: &str) -> Result<Vec<u8>,
     Ok(script)
 }
 
-// Runs these lines in a new house, and returns all answers.
-fn run_script(alloc: Global, batch: &Batch<'_>, script: &[u8]) -> Result<Vec<u8>, CostsFault> {
-    let mut reader = Device::new(script);
-    let mut writer = Device::new(Vec::new(alloc));
-    match run_in_new_house(
-        alloc,
-        batch.users,
-        batch.heap,
-        false,
-        &mut reader,
-        &mut writer,
-    ) {
-        Ok(_) => Ok(writer.into_inner()),
-        Err(_) => Err(CostsFault::Memory),
+// Runs these lines in a new house, and returns the replies.
+fn run_script(alloc: Global, batch: &Batch<'_>, script: &[u8]) -> Result<Vec<u8>, CostsFault>
+    ensures { IfOk result (λ replies.
+        IsAnsweredAnew (map (λ user. user.now) batch.now.users.now) script.now replies.items) }
+{
+    let Ok(mut house) = open_house(alloc, batch.users) else {
+        return Err(CostsFault::Memory);
+    };
+    Ok(answer_script(alloc, &mut house, batch.heap, script)?)
+}
+
+// Has a house answer these lines, evaluated in a heap of this size if there is to be one.
+fn answer_script(
+    alloc: Global,
+    house: &mut House,
+    heap: Option<usize>,
+    script: &[u8],
+) -> Result<Vec<u8>, AllocError>
+    ensures { IfOk result (λ replies. AnswersAll house.old script.now replies.items house.new) }
+{
+    match heap {
+        None => answer_text(alloc, script, house, &Plainly),
+        Some(size) => {
+            let heap = LocalHeap::new(alloc, size)?;
+            answer_text(alloc, script, house, &InHeap(&heap))
+        }
     }
 }
 

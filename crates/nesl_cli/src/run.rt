@@ -115,7 +115,7 @@ fn run_batch<'a, S: Source, W: Sink>(
 }
 
 // Runs a batch in a new house of these users, and returns the house.
-pub(crate) fn run_in_new_house<'a, S: Source, W: Sink>(
+fn run_in_new_house<'a, S: Source, W: Sink>(
     alloc: Global,
     users: &[&'a str],
     heap: Option<usize>,

@@ -3,6 +3,8 @@ pub mod Tallies
 pub mod Talks
 pub mod Turns
 pub mod Exchanges
+pub mod Texts
 pub mod Unique
+pub mod Decided
 pub mod Visits
 pub mod Hints

@@ -5,6 +5,7 @@ pub mod Told
 pub mod Hinted
 pub mod Exchange
 pub mod Batch
+pub mod Laws
 pub mod Guest
 pub mod Serve
 pub mod Visiting

@@ -1,15 +1,36 @@
 //! The lines of a reader, answered by a house.
+ghost use Rattle.std.specs.Prelude.{IfOk, OnErr};
 ghost use Rattle.nesl_line.specs.Steps.{NamesFit};
-ghost use Rattle.nesl_line.specs.Batch.{IsBatch};
+ghost use Rattle.nesl_line.specs.Batch.{AnswersAll, AnswersFirst, IsBatch};
 ghost use Rattle.nesl_line.specs.Exchange.{ReadsTallied, WritesTallied};
 
-use crate::device::{Sink, Source};
+use crate::device::{Device, Sink, Source};
 use crate::exchange::{End, Ran, exchange};
 use crate::turn::Chooser;
 use nesl_house::house::House;
 use nesl_house::manner::{InHeap, Manner, Plainly};
 use nesl_house::user::User;
-use std::alloc::{Allocator, Global};
+use std::alloc::{AllocError, Allocator, Global};
+
+/// Answers the lines of a text, each said in this manner, and returns the replies one after another. If memory runs
+/// out, the replies are lost, and the house has answered the first lines of the text.
+pub fn answer_text<M: Manner>(
+    alloc: Global,
+    text: &[u8],
+    house: &mut House,
+    manner: &M,
+) -> Result<Vec<u8>, AllocError>
+    ensures answered { IfOk result (λ replies. AnswersAll house.old text.now replies.items house.new) }
+    ensures refused { OnErr result (AnswersFirst house.old text.now house.new) }
+{
+    let mut reader = Device::new(text);
+    let mut writer = Device::new(Vec::new(alloc));
+    match batch_by(alloc, &mut reader, &mut writer, house, manner).end {
+        End::Input => Ok(writer.into_inner()),
+        // No read of a text fails, and no text that fits in memory takes 2^32 reads.
+        End::ReadFault | End::WriteFault | End::NoMemory => Err(AllocError),
+    }
+}
 
 /// Answers the lines of a reader, one by one. Each answer is written and flushed before the next line is looked at.
 pub fn batch<S: Source, W: Sink>(

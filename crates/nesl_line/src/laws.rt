@@ -4,6 +4,9 @@ ghost use Rattle.nesl_house.specs.Script.{Event, replies_of};
 ghost use Rattle.nesl_house.specs.Runs.{Account, roster_of};
 ghost use Rattle.nesl_line.specs.Lines.{AllLines, WholeLines};
 ghost use Rattle.nesl_line.specs.Conversation.{Conversation};
+ghost use Rattle.nesl_line.specs.Laws.{OneAnswer};
+
+use nesl_house::laws::own_lines_decide;
 
 /// A text has one list of lines, read to its end or up to a fault.
 pub fn one_list_of_lines()
@@ -22,3 +25,10 @@ pub fn one_conversation()
         → Conversation other who lines others said final
         → replies_of events ≡ replies_of said → (texts ≡ others) × (events ≡ said) × (last ≡ final) }
 {}
+
+/// A text determines the replies of a house to it, and each user's session afterwards, where memory doesn't run out.
+pub fn one_answer()
+    ensures { OneAnswer }
+{
+    own_lines_decide();
+}

@@ -5,6 +5,7 @@
 mod accept;
 pub mod browse;
 pub mod crowd;
+mod front;
 mod opening;
 pub mod service;
 pub mod wire;

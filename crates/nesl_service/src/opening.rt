@@ -1,4 +1,6 @@
 //! Checks the first line of a connection byte by byte.
+ghost use Rattle.std.specs.Prelude.{◌≡◌};
+ghost use Rattle.nesl_service.specs.Opening.{after_name, after_word, is_refused, opening_after};
 
 use nesl_house::roster::MOST_NAME_BYTES;
 
@@ -19,20 +21,26 @@ pub(crate) enum Opening {
 
 impl Opening {
     /// Nothing has arrived.
-    pub(crate) fn new() -> Opening {
+    pub(crate) fn new() -> Opening
+        ensures { result ≡ Opening.Word 0 }
+    {
         Opening::Word(0)
     }
 
-    /// Returns the state after more bytes.
-    pub(crate) fn after(self, bytes: &[u8]) -> Opening {
-        let mut opening = self;
-        for byte in bytes {
-            opening = opening.after_byte(*byte);
+    /// Whether no line with a valid user name begins so.
+    pub(crate) fn is_refused(self) -> bool
+        ensures { result ≡ is_refused self }
+    {
+        match self {
+            Opening::Refused => true,
+            Opening::Word(_) | Opening::Name(_) | Opening::Return | Opening::Whole => false,
         }
-        opening
     }
 
-    fn after_byte(self, byte: u8) -> Opening {
+    /// Returns the state after another byte.
+    pub(crate) fn after(self, byte: u8) -> Opening
+        ensures { result ≡ opening_after self byte }
+    {
         match self {
             Opening::Whole | Opening::Refused => self,
             _ if byte == b'\n' => Opening::Whole,
@@ -44,22 +52,23 @@ impl Opening {
 }
 
 // Returns the state after this number of bytes of `user ` and another byte.
-fn after_word(length: usize, byte: u8) -> Opening {
+fn after_word(length: usize, byte: u8) -> Opening
+    ensures { result ≡ after_word length byte }
+{
     let word = b"user ";
-    match word.get(length) {
-        Some(wanted) if *wanted == byte => {
-            if length + 1 < word.len() {
-                Opening::Word(length + 1)
-            } else {
-                Opening::Name(0)
-            }
-        }
-        _ => Opening::Refused,
+    if length >= word.len() || word[length] != byte {
+        Opening::Refused
+    } else if length + 1 < word.len() {
+        Opening::Word(length + 1)
+    } else {
+        Opening::Name(0)
     }
 }
 
 // Returns the state after this number of bytes of a name and another byte.
-fn after_name(length: usize, byte: u8) -> Opening {
+fn after_name(length: usize, byte: u8) -> Opening
+    ensures { result ≡ after_name length byte }
+{
     if byte == b'\r' {
         return Opening::Return;
     }

@@ -5,6 +5,7 @@ ghost use Rattle.nesl_house.specs.Table.{IsClosed};
 use crate::accept::{Accepted, Acceptor};
 use crate::browse::{Page, PageAcceptor};
 use crate::crowd::{Start, run_crowd};
+use crate::front::Front;
 use crate::wire::{Patience, Reader, Writer, drain_after_shutdown};
 use nesl_eval_helpers::sparing::Sparing;
 use nesl_eval_helpers::{Common, Free, Gate, Pool};
@@ -19,7 +20,7 @@ use nesl_service_records::asking::ReportingHelpers;
 use nesl_service_records::journal::{Caller, Ending, Journal, Missed, NoJournal, Visit};
 use nesl_service_records::numbers::{Fault, Numbers};
 use nesl_service_records::receipts::Receipts;
-use nesl_service_records::watch::Watch;
+use nesl_service_records::watch::{Timed, Watch};
 use std::alloc::{AllocError, Global};
 use std::io::BufWriter;
 use std::marker::Brand;
@@ -160,12 +161,17 @@ impl<
         let Ok(writer) = BufWriter::with_capacity(self.alloc, ANSWER_BYTES, observed) else {
             return ServedConnection::without_memory();
         };
-        let mut reader = Device::new(Reader::new(self.rt, stream, &watch, patience));
+        let lines = Timed {
+            reader: Reader::new(self.rt, stream, patience),
+            watch: &watch,
+        };
+        let mut reader = Device::new(Front::new(lines));
         let mut writer = Device::new(writer);
         let served = self.serve(&mut reader, &mut writer);
         // Bytes that could not be written are dropped.
         let (observed, _) = writer.into_inner().into_parts();
-        let missed = reader.into_inner().missed();
+        let Timed { reader, .. } = reader.into_inner().into_inner();
+        let missed = reader.missed();
         ServedConnection {
             served,
             missed: missed.or(observed.writer.missed()),

@@ -2,9 +2,7 @@
 ghost use Rattle.std.specs.Prelude.{◌≡◌};
 ghost use Rattle.std.specs.Io.{ReadsAtMost};
 
-use crate::opening::Opening;
 use nesl_service_records::journal::Missed;
-use nesl_service_records::watch::Watch;
 pub use nesl_web::lines::Patience;
 use nesl_web::wire::{DrainLimits, Wire, is_late};
 use std::io;
@@ -19,14 +17,13 @@ const TURNED_AWAY_DRAIN: DrainLimits = DrainLimits {
     read_bytes: 4_096,
 };
 
-/// Reads the lines of a connection. A read fails if a line doesn't arrive in time. Input ends early once the first line
-/// can't name a user any more.
+/// Reads the lines of a connection. A read fails if a line doesn't arrive in time.
 #[derive(Drop)]
 pub(crate) struct Reader<'s, R> {
     wire: Wire<'s, R>,
-    watch: &'s Watch<'s, R>,
     patience: Patience,
-    opening: Opening,
+    /// Whether the first line is not complete yet.
+    is_first: bool,
     /// Whether no byte of the next line was read yet.
     is_between: bool,
     /// Whether a line did not arrive in time.
@@ -34,17 +31,11 @@ pub(crate) struct Reader<'s, R> {
 }
 
 impl<'s, R: Clock> Reader<'s, R> {
-    pub(crate) fn new(
-        rt: &'s R,
-        stream: &'s TcpStream,
-        watch: &'s Watch<'s, R>,
-        patience: Patience,
-    ) -> Reader<'s, R> {
+    pub(crate) fn new(rt: &'s R, stream: &'s TcpStream, patience: Patience) -> Reader<'s, R> {
         Reader {
             wire: Wire::new(rt, stream, patience.idle),
-            watch,
             patience,
-            opening: Opening::new(),
+            is_first: true,
             is_between: true,
             is_late: false,
         }
@@ -52,18 +43,19 @@ impl<'s, R: Clock> Reader<'s, R> {
 
     /// Returns which line did not arrive in time, if one didn't.
     pub(crate) fn missed(&self) -> Option<Missed> {
-        match self.opening {
-            _ if !self.is_late => None,
-            Opening::Whole => Some(Missed::Line),
-            _ => Some(Missed::FirstLine),
+        match self.is_late {
+            true if self.is_first => Some(Missed::FirstLine),
+            true => Some(Missed::Line),
+            false => None,
         }
     }
 
     // Returns the time that the next line may take.
     fn allowed(&self) -> Option<Duration> {
-        match self.opening {
-            Opening::Whole => self.patience.idle,
-            _ => Some(self.patience.first_line),
+        if self.is_first {
+            Some(self.patience.first_line)
+        } else {
+            self.patience.idle
         }
     }
 
@@ -85,10 +77,10 @@ impl<'s, R: Clock> Reader<'s, R> {
         self.wire.read(buf)
     }
 
-    // Notes which bytes have arrived.
+    // Notes whether a line has ended in these bytes.
     fn note(&mut self, bytes: &[u8]) {
-        self.opening = self.opening.after(bytes);
         if bytes.contains(&b'\n') {
+            self.is_first = false;
             self.is_between = true;
         }
     }
@@ -96,13 +88,9 @@ impl<'s, R: Clock> Reader<'s, R> {
 
 impl<R: Clock> Read for Reader<'_, R> {
     fn read(&mut self, buf: &mut [u8]) -> io::Result<usize> {
-        if self.opening == Opening::Refused {
-            return Ok(0);
-        }
         match self.read_in_time(buf) {
             Ok(count) => {
                 self.note(&buf[..count]);
-                self.watch.begin();
                 Ok(count)
             }
             Err(error) => {
