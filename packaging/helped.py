@@ -1,4 +1,4 @@
-"""The help texts of a program, read: its commands, arguments and options, and what stands behind them. The manual page
+"""The help texts of a program, read: its commands, arguments and options, and the texts beside them. The manual page
 and the completion are made of what is read here, so no word of them is written twice.
 """
 import re
@@ -66,7 +66,7 @@ def entries(lines, where):
 
 
 def read(words, text):
-    """A help text: what it is about, the usage, the sections, and the rest as it stands."""
+    """A help text: what it is about, the usage, the sections, and the rest as it is."""
     it, lines = Help(words), text.rstrip("\n").split("\n")
     place = next((place for place, line in enumerate(lines) if line.startswith("Usage: ")), None)
     if place is None:
@@ -101,7 +101,7 @@ SIGNS = str.maketrans({"\\": "\\e", "-": "\\-", "'": "\\(aq", "^": "\\(ha", "~":
 
 
 def escaped(text):
-    """Text as roff has it, whose every sign stands for itself."""
+    """Text as roff has it, in which every sign means itself."""
     return guarded(text.translate(SIGNS))
 
 
@@ -120,7 +120,7 @@ def prose(text):
 
 
 def paragraphs(text):
-    """Paragraphs as they are filled, and what is indented as it stands."""
+    """Paragraphs as they are filled, and what is indented as it is."""
     out = []
     for block in re.split(r"\n\n+", text.strip("\n")):
         lines = block.split("\n")
@@ -132,7 +132,7 @@ def paragraphs(text):
 
 
 def usage(text):
-    """A usage line: what is said as it stands is bold, and what stands for something is italic."""
+    """A usage line: what is typed as it is is bold, and what is replaced by something is italic."""
     text = re.sub(r"<([^<>]+)>", r"\\fI\1\\fR", escaped(text))
     return re.sub(r"(?<![\w\\<])(pazkindu(?: [a-z]+)?|\\-\\-[\w\\-]+?)(?= |$)", r"\\fB\1\\fR", text)
 

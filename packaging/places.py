@@ -1,7 +1,7 @@
 """Where scripts/check_package tries a package, and what runs its unit there.
 
 A place has the package's files: a Debian that debootstrap made, or a bare folder. A keeper runs the unit: systemd,
-which systemd-nspawn boots in the Debian; or this machine's systemd, by systemd-run; or nobody, and then prlimit and
+which systemd-nspawn boots in the Debian; or this machine's systemd, by systemd-run; or no systemd, and then prlimit and
 setpriv give the command line the unit's limits.
 """
 import contextlib
@@ -93,7 +93,7 @@ class Debian(Bare):
         return self.run("dpkg", *words)
 
 
-# The unit as it stands, for those who run it without systemd.
+# The unit as it is, for what runs it without systemd.
 
 def service(place):
     """The rows of the unit's [Service], each key with its values."""
@@ -169,7 +169,7 @@ class Keeper:
 
 
 class Limited(Keeper):
-    """Nobody: prlimit and setpriv, with the limits of the unit that they know."""
+    """No systemd: prlimit and setpriv, with the limits of the unit that they know."""
     kind = "prlimit and setpriv, with the unit's limits; its other lines were not tried"
 
     def __init__(self, place):
@@ -240,7 +240,7 @@ class Managed(Keeper):
 
 
 class Transient(Managed):
-    """This machine's systemd, by systemd-run: every line of the unit's [Service], and the program where it stands,
+    """This machine's systemd, by systemd-run: every line of the unit's [Service], and the program at its place,
     which may be below a /tmp that the unit doesn't see."""
     kind = "systemd-run, with every line of the unit"
 

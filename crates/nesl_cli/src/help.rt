@@ -9,15 +9,15 @@ pub(crate) const USERS: &str = "\
 A user's name: 1 to 16 small letters and digits, a letter
 first; 1 to 64 users, each named once";
 
-pub(crate) const HEAP: &str = "Evaluates in one heap of so many bytes: 16 to 1073741824";
+pub(crate) const HEAP: &str = "Evaluates in a heap of this size: 16 to 1073741824 bytes";
 
 pub(crate) const CSV: &str = "\
 Writes n, work and depth of the last line for each of
 these values of n, as 1,2,4,8; the lines of standard
-input are said anew for each";
+input are run again for each";
 
 pub(crate) const HINTS: &str = "\
-Tells below a fault what is wrong and where, in one line
+Writes below a fault what is wrong and where, in one line
 that begins with `hint: `";
 
 pub(crate) const SERVE: &str = "\
@@ -25,15 +25,15 @@ Answers the lines of connections to 127.0.0.1, each of one user;
 the first line of each is `user NAME`";
 
 pub(crate) const PORT: &str = "\
-The port that is listened on: 0 to 65535,
-where 0 is any that is free";
+The port to listen on: 0 to 65535, where 0
+is any that is free";
 
 pub(crate) const WORKERS: &str = "\
 How many threads may help those that serve,
 all together: 0 to 64";
 
 pub(crate) const CONNECTIONS: &str = "\
-Ends after so many connections:
+Ends after this number of connections:
 1 to 1000000";
 
 pub(crate) const WEB: &str = "\
@@ -46,18 +46,18 @@ A name by which browsers may ask for the
 page, beside localhost, 127.0.0.1 and [::1]";
 
 pub(crate) const IDLE: &str = "\
-Ends a connection whose line has not come
-whole after so many seconds, or that takes
-nothing of an answer for so long: 1 to 86400";
+Ends a connection whose line isn't complete
+after this number of seconds, or that reads
+nothing of an answer for as long: 1 to 86400";
 
 pub(crate) const FIRST_LINE: &str = "\
-Ends a connection whose first line has not
-come whole after so many seconds: 1 to
+Ends a connection whose first line isn't
+complete after this number of seconds: 1 to
 86400, 10 without it";
 
 pub(crate) const LOG: &str = "\
-Tells on standard error of each connection's
-begin, user and end, and why it ended";
+Logs each connection's begin, user and end,
+and why it ended, on standard error";
 
 pub(crate) const STATS: &str = "\
 Writes how the service is doing into this
@@ -68,7 +68,7 @@ pub(crate) const REPL: &str = "\
 Opens a session of one's own, with a prompt, help, and hints below
 faults";
 
-pub(crate) const REPL_HINTS: &str = "Tells hints also if standard output is no terminal";
+pub(crate) const REPL_HINTS: &str = "Shows hints even if standard output is no terminal";
 
 pub(crate) const REPL_FILES: &str = "\
 Lets :load and :save open files also if standard input is no
@@ -82,7 +82,7 @@ pub(crate) const SERVE_EXAMPLE: &str =
 pub(crate) const REPL_EXAMPLE: &str = "For example: pazkindu repl";
 
 pub(crate) const BATCH_AFTER: &str = "\
-A line `user NAME` selects the user that the lines behind it are for. Each
+A line `user NAME` selects the user that the lines after it are for. Each
 other line goes to that user's own session and is answered by one line: a value
 with its type, work and depth, what else was defined, or a fault. So
 
@@ -95,14 +95,14 @@ is answered by
     it = [1, 4] : [int] (work 12, depth 7)
 
 A line that ends in a backslash goes on in the user's next one. :names, :budget
-and :type tell of the session, and :reset clears it.
+and :type show what the session has, and :reset clears it.
 
 Exit status: 0 at the end of input, 1 if a device or memory failed, 2 if the
 words or the users' names are wrong.";
 
 pub(crate) const SERVE_AFTER: &str = "\
 It prints `listening on 127.0.0.1:7000` once it listens on that port. The first
-line of a connection names its user and is told back; each line behind it is
+line of a connection names its user and is sent back; each line after it is
 answered by one line, as in
 
     rlwrap nc -N 127.0.0.1 7000
@@ -115,27 +115,27 @@ With --web it prints `page at http://127.0.0.1:8080/` below that: open this in
 a browser.
 
 A user has one connection at a time, and the session waits for the next. There
-are no passwords, so only this machine is listened to; docs/OPERATING.md says
-how others are let in, and what it costs.
+are no passwords, so it listens to this machine only; docs/OPERATING.md says
+how to let others in, and what that costs.
 
 Exit status: 0 after the last of the connections, 1 if a socket or memory
 failed, 2 if the words or the users' names are wrong.";
 
 pub(crate) const REPL_AFTER: &str = "\
 A form may go on over several lines, until its `;` or an empty line. It is
-answered by one line, as in a batch, and below a fault stands what is wrong,
-and where:
+answered by one line, as in a batch, and below a fault is what is wrong, and
+where:
 
     > sum 3;
     fault syntax (work 0)
       sum 3;
       --- ^
-      hint: an argument stands in parentheses: `sum(..)`; between two values an
-            operator stands
+      hint: an argument belongs in parentheses: `sum(..)`; between two values
+            there is an operator
 
-:help tells what there is, and :help take what take is, and what it costs.
-:type NAME tells a type, and :list the forms that bound a name. :save FILE
-writes these into a file, :load FILE says the lines of one, and :quit ends.
+:help lists what there is, and :help take explains take and what it costs.
+:type NAME shows a type, and :list the forms that bound a name. :save FILE
+writes these into a file, :load FILE runs the lines of one, and :quit ends.
 
 There is no line editor: `rlwrap pazkindu repl` has one, and keeps a history.
 If standard input or standard output is no terminal, there are no prompts. If

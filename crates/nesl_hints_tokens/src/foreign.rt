@@ -8,11 +8,11 @@ use nesl_lex::token::{Sign, Token};
 const FOREIGN: &str = "\
 def fun fn func define\ta function is defined by `function g(x) = x + 1;`
 lambda\tfunctions are no values: define one by `function g(x) = x + 1;`
-type\ta datatype is defined by `datatype point (int, int);`, and a type is told by `:type x;`
+type\ta datatype is defined by `datatype point (int, int);`, and `:type x;` shows a type
 data struct\ta datatype is defined by `datatype point (int, int);`
 var val const set\ta variable is bound by its name alone, as in `x = 3;`
 return\tnothing is returned: a function's body is its value
-print\tan expression alone tells its value: leave `print` out
+print\tan expression alone shows its value: leave `print` out
 for\tthere are no loops: `{a * a : a in v}` does something for each element
 while\tthere are no loops: a function may call itself, and `{a * a : a in v}` goes over elements
 import\tthere are no modules: all functions are there from the beginning
@@ -29,14 +29,14 @@ pub(crate) fn foreign_said(tokens: &[Token]) -> Option<&'static str> {
 /// What is said of two neighbouring signs that another language has for one.
 pub(crate) fn pair_said(first: Sign, second: Sign) -> Option<&'static str> {
     let said = match (first, second) {
-        (Sign::Plus, Sign::Equal) => "`+=` is no sign: a name is bound anew, as in `x = x + 1;`",
+        (Sign::Plus, Sign::Equal) => "`+=` is no sign: a name is bound again, as in `x = x + 1;`",
         (Sign::DoublePlus, Sign::Semicolon) => {
             "`++` joins two sequences; one more is `x = x + 1;`"
         }
         (Sign::Minus, Sign::Equal) => {
-            "`-=` is no sign: a name is bound anew, as in `x = x - 1;`"
+            "`-=` is no sign: a name is bound again, as in `x = x - 1;`"
         }
-        (Sign::Star, Sign::Equal) => "`*=` is no sign: a name is bound anew, as in `x = x * 2;`",
+        (Sign::Star, Sign::Equal) => "`*=` is no sign: a name is bound again, as in `x = x * 2;`",
         (Sign::Star, Sign::Star) => {
             "`**` is no sign: write a product, or `lshift(1, n)` for a power of two"
         }

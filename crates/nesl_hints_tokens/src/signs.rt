@@ -8,7 +8,7 @@ pub(crate) const SIGNS: &str = "\
 !\t`!` is no sign: write `not(..)`
 ...\t`...` is no sign: a range is `[1 : 6]`, and ends before its second number
 ..\t`..` is no sign: a range is `[1 : 6]`, and ends before its second number
-.\t`.` is no sign: numbers have no fractions, and a function stands before its argument, as `g(x)`
+.\t`.` is no sign: numbers have no fractions, and a function comes before its argument, as `g(x)`
 ''\t`'` is no sign: a text has double quotes, as \"ab\", and a character is a backquote and one byte, as `a
 '\t`'` is no sign: a character is a backquote and one byte, as `a, and a text has double quotes
 ^\t`^` is no sign: write a product, or `lshift(1, n)` for a power of two
@@ -18,7 +18,7 @@ pub(crate) const SIGNS: &str = "\
 ?\t`?` is no sign: a choice is `if .. then .. else ..`
 $\t`$` is no sign: a name begins with a letter, and goes on with letters, digits and `_`
 _\ta name begins with a letter, and goes on with letters, digits and `_`
-\\\t`\\` may stand only as the last byte of a line, whose form goes on in the next line
+\\\t`\\` may only be the last byte of a line, whose form goes on in the next line
 ‘ ’\ta curly quote: a character is a backquote and one byte, as `a
 “ ” „\ta curly quote: a text has straight double quotes, as \"ab\"
 ´\tan accent: a character is a backquote and one byte, as `a

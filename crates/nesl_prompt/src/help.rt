@@ -6,7 +6,7 @@ use std::alloc::{AllocError, Global};
 
 /// The greeting, and the first prompt.
 pub const GREETING: &[u8] =
-    b"Pazkindu: NESL, with the work and the depth of each line. `:help` tells what\n\
+    b"Pazkindu: NESL, with the work and the depth of each line. `:help` lists what\n\
 there is, and `:quit` ends. A form ends in `;`, as in `2 * 3 + 1;`.\n> ";
 
 /// The note that is written the first time that a form goes on.
@@ -19,18 +19,18 @@ A form ends in `;`, and may go on over several lines; an empty line ends it too.
   name = exp;                   evaluates, and binds the value to the name
   function name(a, b) = exp;    defines a function
   datatype name (type, type);   defines a datatype
-  :type exp;                    tells the type that the expression would have
-  :names  :budget  :reset       tell what is bound, and what is left; forget all
+  :type exp;                    shows the type that the expression would have
+  :names  :budget  :reset       show the names, show what is left, forget all
 
   {exp : a in v; b in w | exp}  let a = exp; b = exp in exp
   if exp then exp else exp      [1, 2]  [] int  [1:9:2]  v[i]  \"text\"  `c  T  F
 
-Words of this prompt, which no session hears:
-  :help NAME   tells of a function or a sign, as `:help take` and `:help ++`
-  :type NAME   tells the type of a function, too
-  :list        lists what was said and kept
-  :save FILE   writes that into a file
-  :load FILE   says the lines of a file
+Words of this prompt, which the session doesn't get:
+  :help NAME   explains a function or a sign: `:help take`, `:help ++`
+  :type NAME   shows the type of a function, too
+  :list        lists the forms that bound a name
+  :save FILE   writes these into a file
+  :load FILE   runs the lines of a file
   :quit        ends, as the end of input does
 
 Functions and signs:
@@ -39,7 +39,7 @@ Functions and signs:
 /// The help on an apply-to-each.
 const EACH: &[u8] = b"\
 {e : p in e; q in e; .. | e}
-  evaluates the body for each place that the filter keeps, all in step
+  evaluates the body at each place that the filter keeps, all in parallel
   work 1 + the nodes of each value, depth 1 + the deepest filter and body
 ";
 
@@ -49,7 +49,7 @@ const FORMS: [(&[u8], &[u8]); 9] = [
         b"let",
         b"\
 let p = e; q = e; .. in e
-  binds in order, each seen by those behind it
+  binds in order; each binding sees those before it
   work 1 and depth 1, besides the parts
 ",
     ),
@@ -81,11 +81,11 @@ datatype name type;
     (b"{", EACH),
     (
         b"names",
-        b":names\n  tells the names in order of first definition\n",
+        b":names\n  shows the names in order of first definition\n",
     ),
     (
         b"budget",
-        b":budget\n  tells the work that is left, and what is used of the rest\n",
+        b":budget\n  shows the work that is left, and how much of the other limits is used\n",
     ),
     (
         b"reset",
@@ -134,9 +134,9 @@ fn put_form(out: &mut Vec<u8>, name: &[u8]) -> Result<bool, AllocError> {
 }
 
 fn put_unknown(out: &mut Vec<u8>, name: &[u8]) -> Result<(), AllocError> {
-    out.extend_from_slice(b"nothing is known of `")?;
+    out.extend_from_slice(b"there is no help on `")?;
     out.extend_from_slice(name)?;
-    out.extend_from_slice(b"`; `:help` tells what there is\n")
+    out.extend_from_slice(b"`; `:help` lists what there is\n")
 }
 
 /// Returns a text with its ASCII letters in lower case.

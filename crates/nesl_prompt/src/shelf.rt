@@ -29,7 +29,7 @@ pub enum ShelfFault {
     Link,
     #[error("it is no regular file")]
     Irregular,
-    #[error("files of this name with `.1.new` to `.100.new` behind it are in the way")]
+    #[error("files of this name with `.1.new` to `.100.new` after it are in the way")]
     Beside,
     #[error("its owner or its group can't be kept")]
     Owner,

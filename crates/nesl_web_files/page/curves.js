@@ -7,7 +7,7 @@ const EDGE = { left: 44, right: 18, top: 12, bottom: 26 };
 /**
  * @typedef {object} Curve
  * @property {string} name its class, "first" or "second"
- * @property {number[][]} points each an n and what is told for it, in order of n
+ * @property {number[][]} points each an n and what was measured for it, in order of n
  */
 
 function shape(tag, attributes, ...children) {

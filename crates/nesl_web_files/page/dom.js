@@ -3,7 +3,7 @@
 /** The element of an id. */
 export const find = (id) => document.getElementById(id);
 
-/** An element with these children, of which texts are texts. It is told as `p` or, with a class, as `p.soft`. */
+/** An element with these children, of which texts are texts. `what` is a tag, maybe with a class: `p` or `p.soft`. */
 export function make(what, ...children) {
   const [tag, ...classes] = what.split(".");
   const element = document.createElement(tag);
@@ -12,14 +12,14 @@ export function make(what, ...children) {
   return element;
 }
 
-/** A button that does something; it is told as what `make` makes. */
+/** A button that does something; `what` is as in `make`. */
 export function button(what, text, act) {
   const made = Object.assign(make(what, text), { type: "button" });
   made.addEventListener("click", act);
   return made;
 }
 
-/** Tells a text to those who listen to the page, also where it is that of before. */
+/** Announces a text to users who listen to the page, even if it is the same as before. */
 export function announce(text) {
   const again = find("spoken").textContent === text;
   find("spoken").textContent = again ? `${text}\u00a0` : text;

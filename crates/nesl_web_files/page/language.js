@@ -8,7 +8,7 @@ export const FAULTS = {
   long: "A form has at most 65,536 bytes, its parts together.",
   lexical: "No token begins at this byte.",
   syntax: "The tokens are no form: one definition, one expression or one command, most of which end in a semicolon.",
-  nested: "The form is more than 100 high: too many parts stand within each other.",
+  nested: "The form is more than 100 high: too many parts are nested in one another.",
   unknown: "This name refers to nothing.",
   type: "There is no type: what a function or sign is given isn’t what it takes.",
   ambiguous: "The expression’s type isn’t determined.",
@@ -20,15 +20,15 @@ export const FAULTS = {
   code: "A character’s code is 0 to 255.",
   length: "Sequences that go together differ in length, or a length is below 0.",
   empty: "An empty sequence has no greatest or least element.",
-  permutation: "A place stands twice among those that are written to.",
+  permutation: "A place is among those that are written to twice.",
   count: "The lengths of the pieces don’t add up to the length of the sequence.",
   stride: "The step of a range is at least 1.",
-  deep: "More than 1,000 nodes stand within each other, those of called bodies too.",
+  deep: "More than 1,000 nodes are nested in one another, those of called bodies included.",
   large: "A pair, literal or record would have more than 1,048,576 nodes.",
   work: "The line needs more work than a line may take, 1,000,000, or than the session has left.",
   elements: "What is bound would have more than 100,000 nodes.",
   transcript: "The session has no room for this line. The command :reset makes room, and forgets all names.",
-  memory: "Memory was wanting. The session is as it was.",
+  memory: "Memory ran out. The session is as it was.",
   user: "The server knows no user of this name.",
   busy: "Another connection has this user, maybe in another tab or window.",
 };
@@ -45,7 +45,7 @@ const REPLIES = [
   ["function", /^(\w+) : (.* -> .*)$/, "name", "type"],
 ];
 
-/** A reply, taken apart: its kind, and what it tells. `ok`, `more` and anything else have no more than their text. */
+/** A reply, taken apart: its kind, and what it says. `ok`, `more` and anything else have only their text. */
 export function readReply(text) {
   for (const [kind, pattern, ...names] of REPLIES) {
     const found = pattern.exec(text);
@@ -60,7 +60,7 @@ export const grouped = (number) => String(number).replace(/\B(?=(\d{3})+$)/g, ",
 /** How many bytes a text has as UTF-8. */
 export const bytesOf = (text) => new TextEncoder().encode(text).length;
 
-/** A form as it is said: each line but the last ends in a backslash. */
+/** A form as it is sent: each line but the last ends in a backslash. */
 export function partsOf(form) {
   const lines = form.split("\n");
   return lines.map((line, place) => (place < lines.length - 1 ? `${line}\\` : line));
@@ -69,7 +69,7 @@ export function partsOf(form) {
 /** A form as it is kept: no blanks around it, and no backslashes before its line breaks. */
 export const tidied = (text) => text.trim().replace(/\\\n/g, "\n");
 
-/** What stands in a text before the bytes from..to, in them, and behind them. Characters are never cut. */
+/** The parts of a text before the bytes from..to, in them, and after them. Characters are never cut. */
 export function cutAt(text, from, to) {
   const cut = ["", "", ""];
   let byte = 0;
@@ -83,7 +83,7 @@ export function cutAt(text, from, to) {
 
 const TOKENS = /%[^%]*%?|"[^"]*"?|`[ -~]|[a-z]\w*|\d+|\s+|[^]/gi;
 
-/** An expression with a number in place of n, as a whole token; null where no n stands in it. */
+/** An expression with a number in place of n, as a whole token; null if there is no n in it. */
 export function withNumber(expression, number) {
   const tokens = expression.match(TOKENS) ?? [];
   const calls = (place) => tokens.slice(place + 1).find((token) => !/^[%\s]/.test(token)) === "(";

@@ -13,7 +13,7 @@ pub static TEXT: &str = r##"<!doctype html>
 <script type="module" src="main.js"></script>
 </head>
 <body>
-<noscript><p class="banner">This page says lines to its server by JavaScript, which is turned off here.</p></noscript>
+<noscript><p class="banner">This page sends lines to its server by JavaScript, which is turned off here.</p></noscript>
 <p id="spoken" class="unseen" role="status"></p>
 
 <main id="sign" class="sign" hidden>
@@ -61,7 +61,7 @@ pub static TEXT: &str = r##"<!doctype html>
     <p>A form is an expression, a definition or a command. Write one below, or take one of these:</p>
     <p id="examples" class="chips"></p>
   </div>
-  <ol id="cells" class="cells" aria-label="What was said"></ol>
+  <ol id="cells" class="cells" aria-label="Forms and replies"></ol>
   <form id="say" class="card say">
     <p id="queue" class="queue" hidden></p>
     <label for="field" id="field-label">Form</label>
@@ -70,7 +70,7 @@ pub static TEXT: &str = r##"<!doctype html>
     <div class="row">
       <p id="field-help" class="soft"><span><kbd>Enter</kbd> says it</span>
         <span><kbd>Shift</kbd> <kbd>Enter</kbd> breaks the line</span>
-        <span><kbd>↑</kbd> <kbd>↓</kbd> what was said before</span></p>
+        <span><kbd>↑</kbd> <kbd>↓</kbd> earlier forms</span></p>
       <button type="button" id="break" class="quiet">New line</button>
       <button class="main">Say</button>
     </div>
@@ -80,8 +80,8 @@ pub static TEXT: &str = r##"<!doctype html>
 
 <section id="measure" aria-labelledby="measure-title" hidden>
   <h2 id="measure-title">Measure</h2>
-  <p>Write an expression with <code>n</code> in it. It is said once for each value of n, and its work and depth are
-    drawn over n. The numbers are exact, and the same on every machine.</p>
+  <p>Write an expression with <code>n</code> in it. It is evaluated once for each value of n, and its work and depth
+    are drawn over n. The numbers are exact, and the same on every machine.</p>
   <form id="measure-form" class="card">
     <label for="first">Expression</label>
     <textarea id="first" class="code" rows="1" spellcheck="false" autocapitalize="off"></textarea>
@@ -121,8 +121,8 @@ pub static TEXT: &str = r##"<!doctype html>
 
 <section id="lessons" aria-labelledby="lessons-title" hidden>
   <h2 id="lessons-title">Lessons</h2>
-  <p>Thirteen problems, their programs, and why their work and depth are what they are. A lesson is one session, from its
-    first block to its last: say <code>:reset</code> in the notebook before you begin another.</p>
+  <p>Thirteen problems, their programs, and why their work and depth are what they are. A lesson is one session, from
+    its first block to its last: enter <code>:reset</code> in the notebook before you begin another.</p>
   <div id="lesson-list"></div>
 </section>
 </main>
@@ -131,7 +131,7 @@ pub static TEXT: &str = r##"<!doctype html>
 <section class="card" aria-labelledby="left-title">
   <h2 id="left-title">What is left</h2>
   <dl id="bars" class="bars"></dl>
-  <p class="soft">Asked for by <code>:budget</code> behind each form, which counts as a line.</p>
+  <p class="soft">Asked for by <code>:budget</code> after each form, which counts as a line.</p>
 </section>
 <section class="card" aria-labelledby="names-title">
   <h2 id="names-title">Names</h2>

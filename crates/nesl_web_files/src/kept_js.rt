@@ -2,7 +2,7 @@
 
 /// The text.
 pub static TEXT: &str =
-    r##"/** What this tab keeps over a reload: its user, what was said, and what is known of the names. */
+    r##"/** What this tab keeps over a reload: its user, the forms that were sent, and what is known of the names. */
 
 const PLACE = "pazkindu";
 

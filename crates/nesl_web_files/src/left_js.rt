@@ -12,11 +12,11 @@ const WORK = 100000000;
 const QUIET = 120; // milliseconds without a form, before the budget is asked for
 const MOST_ASKED = 60; // types that are asked for where a session is taken up
 
-/** Each name with its type: "" where it is a function's or a datatype's that this tab was never told. */
+/** Each name with its type: "" where it is a function's or a datatype's that this tab never received. */
 const names = new Map();
 let waiting = 0;
 
-/** Shows what was kept, and listens to what is told. */
+/** Shows what was kept, and listens to replies. */
 export function openLeft() {
   (kept.names ?? []).forEach(([name, type]) => names.set(name, type));
   session.addEventListener("told", ({ detail }) => learn(detail.line, readReply(detail.reply)));
@@ -24,7 +24,7 @@ export function openLeft() {
   drawNames();
 }
 
-/** Asks for the budget soon, once for all forms that are said until then. */
+/** Asks for the budget soon, once for all forms that are sent until then. */
 export function askSoon() {
   clearTimeout(waiting);
   waiting = setTimeout(() => session.ask(":budget"), QUIET);
@@ -40,7 +40,7 @@ export async function askAll(wanted = (type) => type === undefined, most = MOST_
   return true;
 }
 
-/** Whether a type is one that only functions and datatypes have; nobody is told those of `:type`. */
+/** Whether a type is one that only functions and datatypes have; `:type` shows none of these. */
 const isOfFunction = (type) => / -> /.test(type);
 
 function learn(line, told) {

@@ -2,7 +2,7 @@
 
 /// The text.
 pub static TEXT: &str =
-    r##"/** The page as a whole: who is at it, its connection, and which view is shown. */
+    r##"/** The page as a whole: its user, its connection, and which view is shown. */
 import { announce, find } from "./dom.js";
 import { forget, keep, kept } from "./kept.js";
 import { FAULTS } from "./language.js";
@@ -20,7 +20,7 @@ const VIEWS = ["notebook", "measure", "lessons"];
 
 let view = VIEWS[0];
 
-/** What a connection that was refused is told, in words. */
+/** Why a connection was refused, in words. */
 const why = (fault) => (FAULTS[fault] ? `fault ${fault}: ${FAULTS[fault]}` : UNREACHABLE);
 
 async function signIn(event) {
@@ -72,7 +72,7 @@ function tell(text) {
   find("light").className = session.seated ? "light" : "light out";
 }
 
-/** Ends the connection, and begins with an empty page, which may tell why. */
+/** Ends the connection, and begins with an empty page, which may say why. */
 function leave(told) {
   session.end();
   forget();

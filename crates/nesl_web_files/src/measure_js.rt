@@ -2,7 +2,7 @@
 
 /// The text.
 pub static TEXT: &str =
-    r##"/** Measuring: an expression is said for several n, and its work and depth are drawn over n. */
+    r##"/** Measuring: an expression is evaluated for several n, and its work and depth are drawn over n. */
 import { drawCurves } from "./curves.js";
 import { announce, button, find, growing, make } from "./dom.js";
 import { keep, kept } from "./kept.js";
@@ -189,7 +189,7 @@ const header = (text, scope) => Object.assign(make("th", text), { scope });
 const wide = (cell) => Object.assign(cell, { colSpan: 2 });
 
 function drawTold(told) {
-  if (!told) return [wide(make("td.soft", "not said"))];
+  if (!told) return [wide(make("td.soft", "not measured"))];
   if (!told.depth) return [wide(make("td.wrong", `fault ${told.word}`))];
   return [make("td", grouped(told.work)), make("td", grouped(told.depth))];
 }

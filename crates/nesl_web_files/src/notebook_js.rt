@@ -2,7 +2,7 @@
 
 /// The text.
 pub static TEXT: &str =
-    r##"/** The notebook: what was said, each form with its reply, and the field in which the next form is written. */
+    r##"/** The notebook: the forms that were sent, each with its reply, and the field in which the next form is written. */
 import { announce, button, find, growing, make } from "./dom.js";
 import { keep, kept } from "./kept.js";
 import { FAULTS, MOST, bytesOf, cutAt, grouped, partsOf, readReply, tidied } from "./language.js";
@@ -10,8 +10,8 @@ import { session } from "./session.js";
 
 /**
  * @typedef {object} Cell
- * @property {string} form what was said, with line breaks between its parts
- * @property {number} start how many bytes of the same form were said before it
+ * @property {string} form what was sent, with line breaks between its parts
+ * @property {number} start how many bytes of the same form were sent before it
  * @property {?string} [reply] the reply to its last part; null where none came, and nothing while it is awaited
  * @property {number[]} [mark] from which byte to which a fault has its place in it
  */
@@ -24,7 +24,7 @@ const LOST = "The connection ended before a reply came. The line may have been c
 const WAITING = "The first parts of this form wait in the session for the rest.";
 const NOTES = {
   ok: "There are only blanks and comments in it.",
-  more: "The form goes on in what is said next.",
+  more: "The form goes on in what is sent next.",
   reset: "Names, lines and parts are forgotten. The work that was used stays used.",
 };
 const EXAMPLES = ["2 * 3 + 1;", "sum(index(1000));", "{a * a : a in [1, 2, 3]};", "function twice(x) = 2 * x;"];
@@ -64,7 +64,7 @@ export function write(form) {
   field.focus();
 }
 
-/** Puts forms into the field, one after the other: each comes when the one before was said. */
+/** Puts forms into the field, one after the other: each comes after the one before it was sent. */
 export function queueForms(forms, title) {
   queue.forms = [...forms];
   queue.title = title;
@@ -75,7 +75,7 @@ export function queueForms(forms, title) {
 function drawQueue() {
   const left = queue.forms.length;
   find("queue").hidden = left === 0;
-  const text = `${queue.title}: ${left} more ${left === 1 ? "form" : "forms"} behind this one`;
+  const text = `${queue.title}: ${left} more ${left === 1 ? "form" : "forms"} after this one`;
   const acts = [button("button.quiet", "Say all", sayQueue), button("button.quiet", "Drop them", dropQueue)];
   find("queue").replaceChildren(make("span", text), ...acts);
 }
@@ -96,12 +96,12 @@ function breakLine() {
   field.focus();
 }
 
-/** Says the form that stands in the field, and gives whether it was answered. */
+/** Sends the form in the field, and returns whether it was answered. */
 async function sayField() {
   const form = tidied(field.value);
   if (!form) return false;
-  if (!session.seated) return tellField("There is no connection: connect again, then say it.");
-  if (session.pending + bytesOf(form) > MOST) return tellField(`Not said. ${FAULTS.long}`);
+  if (!session.seated) return tellField("There is no connection: connect again, then send it.");
+  if (session.pending + bytesOf(form) > MOST) return tellField(`Not sent. ${FAULTS.long}`);
   recalled = null;
   put(queue.forms.shift() ?? "");
   drawQueue();
@@ -129,7 +129,7 @@ async function say(form) {
   return cell.reply !== null;
 }
 
-/** Draws a cell whose reply has come, marks the place of its fault, and tells it. */
+/** Draws a cell whose reply has come, marks the place of its fault, and announces it. */
 function settle(cell) {
   const told = cell.reply === null ? {} : readReply(cell.reply);
   if (told.from !== undefined) markFault(cell, Number(told.from), Number(told.to ?? Number(told.from) + 1));
@@ -154,7 +154,7 @@ function shortened(cell) {
   return { ...cell, reply: `${name} = ${cut} : ${type} (work ${work}, depth ${depth})` };
 }
 
-/** Marks the bytes from..to of a form in its cells, since its parts may have been said in several. */
+/** Marks the bytes from..to of a form in its cells, since its parts may have been sent in several. */
 function markFault(last, from, to) {
   let behind = last.start + bytesOf(last.form);
   for (let place = cells.indexOf(last); place >= 0; place -= 1) {
@@ -198,7 +198,7 @@ function drawForm({ form, mark }) {
   return make("pre", code);
 }
 
-/** What a cell tells below its form. */
+/** What a cell shows below its form. */
 function drawReply({ reply }) {
   if (reply === undefined) return [make("p.soft", "…")];
   if (reply === null) return [make("p.soft", LOST)];
@@ -245,7 +245,7 @@ function facts(told) {
   return make("dl.facts", ...known.map(([name, fact]) => make(`div.${name}`, make("dt", name), make("dd", fact))));
 }
 
-/** The arrow keys go through what was said, from the first and from the last line of the field. */
+/** The arrow keys go through the earlier forms, from the first and from the last line of the field. */
 function recall(event) {
   const step = { ArrowUp: -1, ArrowDown: 1 }[event.key];
   if (!step || event.shiftKey || event.ctrlKey || event.altKey || event.metaKey) return;

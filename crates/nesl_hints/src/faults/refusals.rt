@@ -224,7 +224,7 @@ fn put_values(
             put_value(asked, effort, sentence, "; the right side is ", right)
         }
         Node::Prefix { operand, .. } => {
-            put_value(asked, effort, sentence, "; it stands before ", operand)
+            put_value(asked, effort, sentence, "; it comes before ", operand)
         }
         Node::Index { sequence, index } => {
             put_value(asked, effort, sentence, "; the place is ", index)?;

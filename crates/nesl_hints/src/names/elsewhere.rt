@@ -25,10 +25,10 @@ pow power\ta power is a product, and a power of two is `lshift(1, n)`
 sqrt\tthe root of a whole number is `isqrt(n)`
 ord\tthe number of a character is `char_code(c)`
 chr\tthe character of a number is `code_char(n)`
-str string\ta number is made no text: its digits have to be reckoned
-print\tan expression alone tells its value: leave `print` out
-println\tan expression alone tells its value: leave `println` out
-write\tan expression alone tells its value, and elements are replaced by `v <- [(i, x)]`
+str string\tno function makes a text of a number: compute its digits
+print\tan expression alone shows its value: leave `print` out
+println\tan expression alone shows its value: leave `println` out
+write\tan expression alone shows its value, and elements are replaced by `v <- [(i, x)]`
 maximum\tthe greatest element is `max_val(v)`
 minimum\tthe least element is `min_val(v)`
 even\twhether a number is even is `evenp(n)`

@@ -133,13 +133,13 @@ fn said_of_value(
     if is_function(context, form, sought.name) {
         return sought.say(
             alloc,
-            "`{name}` is a function: its argument stands behind it in parentheses",
+            "`{name}` is a function: its argument follows it in parentheses",
         );
     }
     if is_bound {
         return sought.say(
             alloc,
-            "`{name}` is bound, but not known here: a `let` knows it behind its binding, and braces in their body and \
+            "`{name}` is bound, but not known here: a `let` knows it after its binding, and braces in their body and \
             filter",
         );
     }

@@ -47,22 +47,22 @@ fn part_named(role: Role<'_>) -> &'static str {
     match role {
         Role::Left(_) => "the left side of `{name}`",
         Role::Right(_) => "the right side of `{name}`",
-        Role::Operand(Prefix::Length) => "what stands behind `#`",
-        Role::Operand(Prefix::Negate) => "what stands behind `-`",
+        Role::Operand(Prefix::Length) => "what follows `#`",
+        Role::Operand(Prefix::Negate) => "what follows `-`",
         Role::Argument(_) => "the argument of `{name}`",
         Role::OneArgument(_, 0) => "the first argument of `{name}`",
         Role::OneArgument(_, 1) => "the second argument of `{name}`",
         Role::OneArgument(_, 2) => "the third argument of `{name}`",
         Role::OneArgument(_, _) => "a later argument of `{name}`",
-        Role::Indexed => "what stands before `[`",
+        Role::Indexed => "what comes before `[`",
         Role::Index => "the number in brackets",
-        Role::Test => "the test behind `if`",
-        Role::Otherwise => "what stands behind `else`",
+        Role::Test => "the test after `if`",
+        Role::Otherwise => "what follows `else`",
         Role::Element => "this element",
         Role::Bound => "this part of a range",
-        Role::Drawn => "what stands behind `in`",
+        Role::Drawn => "what follows `in`",
         Role::Filter => "the filter",
-        Role::Pair => "what these names stand for",
+        Role::Pair => "what these names are bound to",
         Role::Record(_) => "what is matched with `{name}`",
         Role::Parameter => "the parameter",
         Role::Body | Role::OwnBody => "the body",
@@ -74,7 +74,7 @@ fn types_of(role: Role<'_>) -> &'static str {
     match role {
         Role::Right(Operator::Write | Operator::Read) => " is {found}, and must be {wanted}",
         Role::Right(_) => " is {found}, the left side {wanted}",
-        Role::Otherwise => " is {found}, what stands behind `then` {wanted}",
+        Role::Otherwise => " is {found}, what follows `then` {wanted}",
         Role::Element => " is {found}, the first one {wanted}",
         Role::Operand(Prefix::Length) | Role::Indexed | Role::Drawn => {
             " is {found}, and must be a sequence, {wanted}"
@@ -110,7 +110,7 @@ fn advice_on_side(operator: Operator, found: Guess, is_text: bool) -> &'static s
         | Operator::LessOrEqual
         | Operator::GreaterOrEqual => match found {
             Guess::Int | Guess::Char | Guess::Open(_) => "",
-            _ => ": `eql(a, b)` tells whether two values of any type are the same",
+            _ => ": `eql(a, b)` is true if two values of any type are the same",
         },
         Operator::Append => match found {
             Guess::Sequence(_) => "",
