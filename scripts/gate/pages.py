@@ -36,7 +36,7 @@ def shown(program, *words, **how):
 
 @check("files and who may have them")
 def files_and_guests(program):
-    """Each file as it stands in the repository, to whom asks for it by a name of this machine, from no other page."""
+    """Each file as it is in the repository, if it is requested by a name of this machine, from no other page."""
     evil, name = "http://evil.example", "nesl.example"
     with shown(program, "--web-host", name) as (_, port):
         here = f"127.0.0.1:{port}"
@@ -106,7 +106,8 @@ def conversation(program):
 @check("browsers that say nothing")
 def mute_browsers(program):
     """A head and a first line have the time of --first-line together, and a tenth of it where half of the threads are
-    taken. So who doesn't send them keeps nobody waiting for long. A user has the time of --idle."""
+    taken. So a client that doesn't send them keeps others waiting for a short time only. A user has the time of
+    --idle."""
     with shown(program, "--first-line", "2", "--idle", "3") as (service, port):
         mute = [socket.create_connection(("127.0.0.1", port)) for _ in range(10)]
         begun = time.monotonic()
@@ -132,8 +133,8 @@ def mute_browsers(program):
 
 @check("pings whose answers nobody takes")
 def untaken_answers(program):
-    """Who asks by pings before a first line, and takes no answer, is let go after --first-line. So is who does so
-    after the first line, after --idle."""
+    """A client that sends pings before a first line, and takes no answer, is dropped after --first-line. So is one that
+    does so after the first line, after --idle."""
     pings, figures = frame(PING, bytes(125)) * 500, []
     for user, words in ((None, ["--first-line", "2"]), ("ann", ["--idle", "2"])):
         with shown(program, *words) as (service, port):
@@ -151,7 +152,7 @@ def untaken_answers(program):
 
 @check("users on sockets and on WebSockets")
 def both_ways(program):
-    """64 over sockets, the same 64 over WebSockets, then 32 over each: each is told what is told alone."""
+    """64 over sockets, the same 64 over WebSockets, then 32 over each: each gets the answers that it gets alone."""
     rng, said = random.Random(3), []
     for user in names(64):
         lines = LOAD.texts_of(rng, 12)
@@ -163,7 +164,7 @@ def both_ways(program):
 
 @check("the log and the ports of a page")
 def log_and_ports(program):
-    """Connections over WebSockets are told of as others are; a port that is taken is told as such."""
+    """Connections over WebSockets are logged as others are; a port that is taken is reported as such."""
     with shown(program, "--log", "--connections", "1", may_end=True) as (service, port):
         with WebClient(port, "ann") as client:
             client.must(*ONE)

@@ -53,9 +53,10 @@ fn one_lease_at_a_time(rt: HostRuntime) {
         "bob",
         "it; => it = 7 : int (work 1, depth 1)",
     );
-    assert!(rt; is_seven && lines == 1 && place == 1 && receipt == receipt_of(1, 1));
-    assert!(rt; busy == Some(TakeFault::Busy) && stranger == Some(TakeFault::NoUser));
-    assert!(rt; home.is_none() && again == Some(receipt_of(1, 1)));
+    let is_said = is_seven && lines == 1 && place == 1 && receipt == receipt_of(1, 1);
+    let is_refused = busy == Some(TakeFault::Busy) && stranger == Some(TakeFault::NoUser);
+    let is_home = home.is_none() && again == Some(receipt_of(1, 1));
+    assert!(rt; is_said && is_refused && is_home);
 }
 
 // These receipts; memory is there.
@@ -155,11 +156,11 @@ fn another_table_has_the_session(rt: HostRuntime) {
     );
     let three = said(&rt, rt.alloc(), &there, "ann", THREE);
     let receipt = moved(&rt, &there, &here);
-    assert!(rt; three == Some(receipt_of(0, 1)) && receipt == Some(receipt_of(0, 0)));
-    let is_away = refusal(&rt, &there, "ann");
+    let is_moved = three == Some(receipt_of(0, 1)) && receipt == Some(receipt_of(0, 0));
+    let is_away = refusal(&rt, &there, "ann") == Some(TakeFault::Busy);
     let it = "x; => it = 3 : int (work 1, depth 1)";
     let told = said(&rt, rt.alloc(), &here, "ann", it);
-    assert!(rt; is_away == Some(TakeFault::Busy) && told == Some(receipt_of(0, 1)));
+    assert!(rt; is_moved && is_away && told == Some(receipt_of(0, 1)));
 }
 
 #[test]
@@ -169,9 +170,8 @@ fn a_session_with_other_limits_is_not_given_out(rt: HostRuntime) {
         table_otherwise(rt.alloc()).expect(&rt, "memory"),
     );
     let receipt = moved(&rt, &there, &here);
-    let is_away = refusal(&rt, &there, "ann");
-    let is_other = refusal(&rt, &here, "ann");
-    let is_home = refusal(&rt, &here, "bob");
-    assert!(rt; receipt == Some(receipt_of(0, 0)) && is_away == Some(TakeFault::Busy));
-    assert!(rt; is_other == Some(TakeFault::Busy) && is_home.is_none());
+    let is_away = refusal(&rt, &there, "ann") == Some(TakeFault::Busy);
+    let is_other = refusal(&rt, &here, "ann") == Some(TakeFault::Busy);
+    let is_home = refusal(&rt, &here, "bob").is_none();
+    assert!(rt; receipt == Some(receipt_of(0, 0)) && is_away && is_other && is_home);
 }

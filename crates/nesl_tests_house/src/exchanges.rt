@@ -8,5 +8,6 @@ mod heaps;
 mod interrupted;
 mod lines;
 mod served;
+mod texts;
 mod told_first;
 mod turns;

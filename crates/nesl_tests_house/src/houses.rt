@@ -130,6 +130,7 @@ fn each_user_has_a_session(rt: HostRuntime) {
         assert!(rt; is_right, "{row}");
     }
     let (ann, bob) = (lines_of(&house, b"ann"), lines_of(&house, b"bob"));
-    assert!(rt; ann == Some(2) && bob == Some(3) && lines_of_second(&house) == bob);
-    assert!(rt; lines_of(&house, b"zed").is_none() && helpers.have_helped());
+    let are_stored = ann == Some(2) && bob == Some(3) && lines_of_second(&house) == bob;
+    let is_strange = lines_of(&house, b"zed").is_none();
+    assert!(rt; are_stored && is_strange && helpers.have_helped());
 }

@@ -1,35 +1,28 @@
 //! Whether evaluation in halves has the outcome of evaluation in order. A row of outcomes is evaluated once more in
 //! both ways: with the levels of the program and with few, and with small budgets and those about the whole work.
-//! Helpers are always granted, or as a seed says, and few intervals may be cut one within another, or all may. If two
-//! outcomes differ, the answer to the row has one line more. The directives beside those of outcomes are
+//! Helpers are always granted, or as a seed says. If two outcomes differ, the answer to the row has one line more. The
+//! directives beside those of outcomes are
 //!
 //! - `@compare LINE`: an expression that is evaluated in both ways, and has no other answer.
 //! - `@compared`: writes how many expressions were compared and how often, and whether helpers were granted.
-//! - `@layouts`: writes how code is laid out that was written by hand.
 
 use crate::driver::Driver;
 use crate::forms::{Reading, reading_of};
 use crate::granting::Granting;
-use crate::layouts::put_layouts;
 use crate::outcomes::Outcomes;
 use crate::rows::{Asked, Rows};
-use crate::running::{Limits, ops_of, run_in_halves};
 use crate::told::{LEVELS, WORK, is_same, work_of};
 use crate::writing::{put, put_line};
 use nesl_eval::{Outcome, eval_one};
 use nesl_eval_helpers::Free;
-use nesl_eval_ops::Ops;
 use nesl_eval_top_level::Env;
-use nesl_split::{Crew, eval_split};
+use nesl_split::eval_split;
 use nesl_syntax_tree::tree::{Exp, Form};
 use std::alloc::{AllocError, Global};
 use std::thread::Threads;
 
 // An expression is evaluated with each budget below this one, and with those about its whole work.
 const BUDGETS: u64 = 40;
-
-// The number of intervals that may be cut one within another, if they are few.
-const FEW: u32 = 2;
 
 /// How many expressions were compared, how often, and how many helpers were granted.
 #[derive(Clone, Copy)]
@@ -54,7 +47,6 @@ struct Compared<'x, R> {
     rt: &'x R,
     alloc: Global,
     env: &'x Env,
-    ops: &'x Ops,
     exp: &'x Exp,
 }
 
@@ -95,9 +87,6 @@ impl<'a, R: Threads + Sync> Comparing<'a, R> {
         if word == "@compared" {
             return self.put_count(alloc, out);
         }
-        if word == "@layouts" {
-            return put_layouts(alloc, out);
-        }
         let are_same = self.are_same(alloc, text)?;
         if word != "@compare" {
             self.outcomes.follow(alloc, asked, out)?;
@@ -112,26 +101,24 @@ impl<'a, R: Threads + Sync> Comparing<'a, R> {
     // Whether a line has the same outcomes in both ways. One without an expression has none.
     fn are_same(&mut self, alloc: Global, line: &str) -> Result<bool, AllocError> {
         match reading_of(alloc, line.as_bytes())? {
-            Reading::Form(Form::Eval(exp)) => self.compare(alloc, &exp),
-            Reading::Form(Form::Bind { value, .. }) => self.compare(alloc, &value),
+            Reading::Form(Form::Eval(exp)) => Ok(self.compare(alloc, &exp)),
+            Reading::Form(Form::Bind { value, .. }) => Ok(self.compare(alloc, &value)),
             _ => Ok(true),
         }
     }
 
-    fn compare(&mut self, alloc: Global, exp: &Exp) -> Result<bool, AllocError> {
+    fn compare(&mut self, alloc: Global, exp: &Exp) -> bool {
         let env = self.outcomes.env();
-        let ops = ops_of(alloc, env, exp)?;
         let compared = Compared {
             rt: self.rt,
             alloc,
             env,
-            ops: &ops,
             exp,
         };
         let before = self.count.differences;
         self.count.expressions = self.count.expressions.saturating_add(1);
         compare_all(&compared, &mut self.count);
-        Ok(self.count.differences == before)
+        self.count.differences == before
     }
 
     fn put_count(&self, alloc: Global, out: &mut Vec<u8>) -> Result<(), AllocError> {
@@ -192,13 +179,10 @@ fn compare_under<R: Threads + Sync>(
     let told = compared.in_order(levels, fuel);
     let always = Granting::always();
     let seeded = Granting::seeded(count.comparisons);
-    let few = Granting::seeded(count.comparisons);
     let in_halves = compared.in_halves(levels, fuel, &always);
     count.note(is_same(&in_halves, &told) && always.out() == 0);
     let in_halves = compared.in_halves(levels, fuel, &seeded);
     count.note(is_same(&in_halves, &told) && seeded.out() == 0);
-    let in_halves = compared.with_few_cuts(levels, fuel, &few);
-    count.note(is_same(&in_halves, &told) && few.out() == 0);
     count.helpers = count.helpers.saturating_add(seeded.granted());
 }
 
@@ -211,20 +195,6 @@ impl<R: Threads + Sync> Compared<'_, R> {
         eval_split(
             self.rt, self.alloc, self.env, self.exp, levels, fuel, helpers, &Free,
         )
-    }
-
-    // The outcome in halves if few intervals may be cut one within another.
-    fn with_few_cuts(&self, levels: u32, fuel: u64, helpers: &Granting) -> Outcome<Global> {
-        let top_level = self.env.top_level();
-        let crew = Crew {
-            rt: self.rt,
-            helpers,
-            gate: &Free,
-            tops: &top_level,
-            alloc: self.alloc,
-        };
-        let cuts = FEW;
-        run_in_halves(&crew, self.ops, Limits { levels, fuel, cuts })
     }
 }
 

@@ -4,12 +4,6 @@
 //!   there are from here on. After an outcome it then says how many helpers are out, or how many permits are free.
 //! - `@levels NUMBER`, `@budget NUMBER`: this many levels are allowed from here on, and this much work.
 //! - `@requests COUNT`: asks for memory this many times, and does nothing with it.
-//! - `@row LINE`: adds a row, which is an expression with the same outcome in halves and in order.
-//! - `@rows`: writes how many of these rows have another outcome.
-//! - `@budgets COUNT`: evaluates all rows with each budget below the count, where helpers are always granted. It writes
-//!   how many have another outcome; one counts more if helpers are out then.
-//! - `@seeds COUNT`: evaluates a row for each seed, where helpers are granted as the seed says, and writes how many
-//!   have another outcome, and whether more helpers were granted than there are seeds.
 //! - `@meet LINE`: evaluates it where each half of two places waits for the other, and writes how often the left half
 //!   was entered, the right one and any other place, and how often one waited in vain.
 //! - `@say WORK LINE ;; LINE ..`: says the lines to a fresh session, whose lines may take this much work, and writes
@@ -24,9 +18,8 @@ use crate::pools::put_asks;
 use crate::requests::request;
 use crate::rows::{Asked, Rows};
 use crate::sessions::LIMITS;
-use crate::told::{LEVELS, WORK, is_same, put_outcome};
+use crate::told::{LEVELS, WORK, put_outcome};
 use crate::writing::{put, put_done, put_line, put_wrong};
-use nesl_eval::{Outcome, eval_one};
 use nesl_eval_helpers::{Free, Gate, Helpers, NoHelpers, Pool};
 use nesl_eval_top_level::Env;
 use nesl_session::limits::Limits;
@@ -52,7 +45,6 @@ enum Grant {
 #[derive(Clone, Copy)]
 enum Work<'e> {
     One(&'e Exp),
-    Rows,
     // Lines that are said to a session, each of which may take this much work.
     Lines(u64, &'e str),
 }
@@ -63,8 +55,6 @@ struct Halves<'a, L: Ledger, R> {
     rt: &'a R,
     pool: &'a Pool<L>,
     env: Env,
-    rows: String,
-    count: u64,
     grant: Grant,
     levels: u32,
     budget: u64,
@@ -76,8 +66,6 @@ impl<'a, L: Ledger + Send + Sync, R: Threads + Wait + Clock + Sync> Halves<'a, L
             rt,
             pool,
             env: Env::new(alloc),
-            rows: String::new(alloc),
-            count: 0,
             grant: Grant::Never,
             levels: LEVELS,
             budget: WORK,
@@ -119,12 +107,6 @@ impl<'a, L: Ledger + Send + Sync, R: Threads + Wait + Clock + Sync> Halves<'a, L
             self.limit(word, rest, out)
         } else if word == "@requests" {
             request(alloc, rest, out)
-        } else if word == "@row" {
-            self.add_row(rest)
-        } else if word == "@rows" {
-            self.evaluate(alloc, Work::Rows, out)
-        } else if word == "@budgets" || word == "@seeds" {
-            self.try_many(alloc, word, rest, out)
         } else if word == "@say" {
             let (work, lines) = rest.split_once(' ').unwrap_or((rest, ""));
             let work = work.parse::<u64>().unwrap_or(0);
@@ -186,13 +168,6 @@ impl<'a, L: Ledger + Send + Sync, R: Threads + Wait + Clock + Sync> Halves<'a, L
         }
     }
 
-    fn add_row(&mut self, line: &str) -> Result<(), AllocError> {
-        self.rows.push_str(line)?;
-        self.rows.push_str("\n")?;
-        self.count = self.count.saturating_add(1);
-        Ok(())
-    }
-
     // The outcome of this, and how many helpers are out then, or permits free.
     fn evaluate(&self, alloc: Global, work: Work<'_>, out: &mut Vec<u8>) -> Result<(), AllocError> {
         match self.grant {
@@ -231,11 +206,6 @@ impl<'a, L: Ledger + Send + Sync, R: Threads + Wait + Clock + Sync> Halves<'a, L
     ) -> Result<(), AllocError> {
         match work {
             Work::One(exp) => self.put_outcome(alloc, exp, helpers, &Free, out),
-            Work::Rows => {
-                let wrong = self.wrong_rows(alloc, self.budget, helpers);
-                let all = self.count;
-                put(out, format!(in alloc; "{wrong} wrong of {all} rows"))
-            }
             Work::Lines(work, lines) => self.put_said(alloc, work, lines, helpers, out),
         }
     }
@@ -263,111 +233,6 @@ impl<'a, L: Ledger + Send + Sync, R: Threads + Wait + Clock + Sync> Halves<'a, L
         out.extend_from_slice(bytes.strip_suffix(b"\n").unwrap_or(bytes))
     }
 
-    fn told<H: Helpers + Sync, G: Gate + Sync>(
-        &self,
-        alloc: Global,
-        exp: &Exp,
-        budget: u64,
-        helpers: &H,
-        gate: &G,
-    ) -> Outcome<Global> {
-        eval_split(
-            self.rt,
-            alloc,
-            &self.env,
-            exp,
-            self.levels,
-            budget,
-            helpers,
-            gate,
-        )
-    }
-
-    // Whether a row has the same outcome in halves as in order.
-    fn agrees<H: Helpers + Sync>(
-        &self,
-        alloc: Global,
-        row: &str,
-        budget: u64,
-        helpers: &H,
-    ) -> bool {
-        match reading_of(alloc, row.as_bytes()) {
-            Ok(Reading::Form(Form::Eval(exp))) => self.is_same(alloc, &exp, budget, helpers),
-            _ => false,
-        }
-    }
-
-    fn is_same<H: Helpers + Sync>(
-        &self,
-        alloc: Global,
-        exp: &Exp,
-        budget: u64,
-        helpers: &H,
-    ) -> bool {
-        let told = self.told(alloc, exp, budget, helpers, &Free);
-        is_same(&told, &eval_one(alloc, &self.env, exp, self.levels, budget))
-    }
-
-    // The rows that don't.
-    fn wrong_rows<H: Helpers + Sync>(&self, alloc: Global, budget: u64, helpers: &H) -> u64 {
-        let mut wrong = 0u64;
-        for row in self.rows.as_str().lines() {
-            if !self.agrees(alloc, row, budget, helpers) {
-                wrong = wrong.saturating_add(1);
-            }
-        }
-        wrong
-    }
-
-    fn try_many(
-        &self,
-        alloc: Global,
-        word: &str,
-        count: &str,
-        out: &mut Vec<u8>,
-    ) -> Result<(), AllocError> {
-        match count.parse::<u32>() {
-            Ok(count) if word == "@budgets" => self.try_budgets(alloc, u64::from(count), out),
-            Ok(count) => self.try_seeds(alloc, u64::from(count), out),
-            Err(_) => put_wrong(out),
-        }
-    }
-
-    fn try_budgets(&self, alloc: Global, count: u64, out: &mut Vec<u8>) -> Result<(), AllocError> {
-        let mut wrong = 0u64;
-        for budget in 0..count {
-            let helpers = Granting::always();
-            wrong = wrong.saturating_add(self.wrong_rows(alloc, budget, &helpers));
-            wrong = wrong.saturating_add(u64::from(helpers.out() != 0));
-        }
-        put(out, format!(in alloc; "{wrong} wrong by {count} budgets\n"))
-    }
-
-    fn try_seeds(&self, alloc: Global, count: u64, out: &mut Vec<u8>) -> Result<(), AllocError> {
-        let mut wrong = 0u64;
-        let mut granted = 0u64;
-        for seed in 0..count {
-            let helpers = Granting::seeded(seed);
-            wrong = wrong.saturating_add(self.wrong_by_seed(alloc, seed, &helpers));
-            granted = granted.saturating_add(helpers.granted());
-        }
-        let many = if granted > count { "many" } else { "FEW" };
-        put(
-            out,
-            format!(in alloc; "{wrong} wrong by {count} seeds, {many} granted\n"),
-        )
-    }
-
-    // One, unless the row whose turn it is agrees, and no helper is out then.
-    fn wrong_by_seed(&self, alloc: Global, seed: u64, helpers: &Granting) -> u64 {
-        let place = seed.checked_rem(self.count).unwrap_or(0);
-        let budget = seed.saturating_add(40);
-        match self.rows.as_str().lines().nth(place as usize) {
-            Some(row) if self.agrees(alloc, row, budget, helpers) && helpers.out() == 0 => 0,
-            _ => 1,
-        }
-    }
-
     fn meet(&self, alloc: Global, line: &str, out: &mut Vec<u8>) -> Result<(), AllocError> {
         match reading_of(alloc, line.as_bytes())? {
             Reading::Form(Form::Eval(exp)) => self.put_meeting(alloc, &exp, out),
@@ -393,11 +258,17 @@ impl<'a, L: Ledger + Send + Sync, R: Threads + Wait + Clock + Sync> Halves<'a, L
         gate: &G,
         out: &mut Vec<u8>,
     ) -> Result<(), AllocError> {
-        put_outcome(
+        let told = eval_split(
+            self.rt,
             alloc,
-            &self.told(alloc, exp, self.budget, helpers, gate),
-            out,
-        )
+            &self.env,
+            exp,
+            self.levels,
+            self.budget,
+            helpers,
+            gate,
+        );
+        put_outcome(alloc, &told, out)
     }
 }
 

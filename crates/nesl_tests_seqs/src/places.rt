@@ -1,8 +1,7 @@
 //! Elements at places that numbers tell.
-use crate::reading::{unpacked, value_of};
 use crate::told::{gives, price_of, price_within, traps};
 use nesl_scalars::Trap;
-use nesl_seqs::{Argument, Price, SeqFn};
+use nesl_seqs::{Argument, SeqFn};
 use nesl_values::Value;
 use std::alloc::{AllocError, Global};
 use std::test::Fail;
@@ -56,8 +55,6 @@ enum Numbers {
     Down,
     // From 0 on, where 599,998 comes in the place of the next one too.
     LastTwice,
-    // From 0 on, but for those that are written.
-    Written,
 }
 
 fn number_at(numbers: Numbers, place: i64) -> i64 {
@@ -66,17 +63,6 @@ fn number_at(numbers: Numbers, place: i64) -> i64 {
         Numbers::Up => place,
         Numbers::Down => 599_999_i64.saturating_sub(place),
         Numbers::LastTwice => place.min(599_998),
-        Numbers::Written => written_at(place),
-    }
-}
-
-// What is left of the writes: the last to each place.
-fn written_at(place: i64) -> i64 {
-    match place {
-        3 => 30,
-        5_000 => 2,
-        9_999 => 4,
-        other => other,
     }
 }
 
@@ -116,24 +102,13 @@ fn with_places(alloc: Global, places: Numbers) -> Result<Value, AllocError> {
     Value::pair(alloc, numbers, sequence(alloc, places, 600_000)?)
 }
 
-// Whether the result of the function is this many of these numbers, at that price.
-fn gives_numbers(
-    alloc: Global,
-    function: SeqFn,
-    argument: &Value,
-    (numbers, len): (Numbers, i64),
-    price: Price,
-) -> Result<bool, AllocError> {
-    let expected = sequence(alloc, numbers, len)?;
-    gives(alloc, function, argument, &expected, price)
-}
-
 #[test]
 fn places_of_several_windows(rt: HostRuntime) -> Result<(), Fail> {
-    let turned = with_places(rt.alloc(), Numbers::Down)?;
-    let down = (Numbers::Down, 600_000);
+    let alloc = rt.alloc();
+    let turned = with_places(alloc, Numbers::Down)?;
+    let expected = sequence(alloc, Numbers::Down, 600_000)?;
     let whole = price_of(1_800_001, 1, 600_001);
-    assert!(rt; gives_numbers(rt.alloc(), SeqFn::Permute, &turned, down, whole)?);
+    assert!(rt; gives(alloc, SeqFn::Permute, &turned, &expected, whole)?);
     Ok(())
 }
 
@@ -141,29 +116,5 @@ fn places_of_several_windows(rt: HostRuntime) -> Result<(), Fail> {
 fn a_place_twice_in_several_windows(rt: HostRuntime) -> Result<(), Fail> {
     let twice = with_places(rt.alloc(), Numbers::LastTwice)?;
     assert!(rt; traps(SeqFn::Permute, &twice, Trap::Permutation));
-    Ok(())
-}
-
-// Numbers that are written, of which the last one to each place stays.
-const WRITES: &str = "< ( 9999 1 ) ( 5000 2 ) ( 3 30 ) ( 9999 4 ) >";
-
-// Whether they are written among the numbers from 0 to 9,999.
-fn are_written(alloc: Global, numbers: Result<Value, AllocError>) -> Result<bool, AllocError> {
-    let numbers = numbers?;
-    let Some(writes) = value_of(alloc, WRITES, 0)? else {
-        return Ok(false);
-    };
-    let argument = Value::pair(alloc, numbers, writes)?;
-    let written = (Numbers::Written, 10_000);
-    let whole = price_of(20_005, 1, 10_001);
-    gives_numbers(alloc, SeqFn::Write, &argument, written, whole)
-}
-
-#[test]
-fn writes_in_several_windows(rt: HostRuntime) -> Result<(), Fail> {
-    let alloc = rt.alloc();
-    assert!(rt; are_written(alloc, sequence(alloc, Numbers::Up, 10_000))?);
-    let packed = sequence(alloc, Numbers::Up, 10_000)?;
-    assert!(rt; are_written(alloc, unpacked(alloc, &packed))?);
     Ok(())
 }

@@ -126,8 +126,8 @@ fn truths_of(alloc: Global, list: &[u8]) -> Result<Value, AllocError> {
     Value::bools(alloc, truths)
 }
 
-/// A sequence of the same elements, not packed.
-pub fn unpacked(alloc: Global, packed: &Value) -> Result<Value, AllocError> {
+// A sequence of the same elements, not packed.
+fn unpacked(alloc: Global, packed: &Value) -> Result<Value, AllocError> {
     let mut values = Vec::new(alloc);
     let items = packed.items();
     for place in 0..items.len() {

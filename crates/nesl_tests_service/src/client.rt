@@ -34,16 +34,10 @@ fn connect<R: Net<Stream = TcpStream>>(rt: &R, address: SocketAddr) -> io::Resul
     Ok(stream)
 }
 
-// Says some bytes.
-fn say(stream: &TcpStream, bytes: &[u8]) -> io::Result<()> {
-    let mut writer = stream;
-    writer.write_all(bytes)
-}
-
-// Says a line.
 fn say_line(stream: &TcpStream, line: &[u8]) -> io::Result<()> {
-    say(stream, line)?;
-    say(stream, b"\n")
+    let mut writer = stream;
+    writer.write_all(line)?;
+    writer.write_all(b"\n")
 }
 
 // Reads one answer, without its line end.
@@ -73,10 +67,7 @@ fn end(alloc: Global, stream: &TcpStream) -> io::Result<()> {
 fn is_done(alloc: Global, stream: &TcpStream, act: &[u8]) -> io::Result<bool> {
     match act {
         [b'>', b' ', line @ ..] => say_line(stream, line)?,
-        [b'+', b' ', bytes @ ..] => say(stream, bytes)?,
-        [b'?'] => {}
         [b'<', b' ', wanted @ ..] => return Ok(answer(alloc, stream)?.as_slice() == wanted),
-        [b'-'] => return Ok(answer(alloc, stream)?.is_empty()),
         [b'.'] => end(alloc, stream)?,
         _ => return Ok(false),
     }
@@ -104,9 +95,9 @@ fn is_played<R: Net<Stream = TcpStream>>(
     }
 }
 
-// Plays clients. Each row begins with the number of a connection, which is made when its number first comes: `0 > LINE`
-// says a line on it, `0 + BYTES` what is no whole line, `0 < ANSWER` holds the answer to the one that is wanted, `0 ?`
-// does nothing more, `0 -` hears that there is no more, and `0 .` says no more and hears what is left.
+/// Plays clients. Each row begins with the number of a connection, which is made when its number first comes.
+/// `0 > LINE` says a line on it, `0 < ANSWER` compares the answer with the one that is wanted, and `0 .` says no more
+/// and reads what is left.
 pub fn play<R: Net<Stream = TcpStream> + Abort>(
     rt: &R,
     alloc: Global,

@@ -1,9 +1,6 @@
 //! Connections that are played to a service.
 use crate::client::{ann_and_bob, play};
-use nesl_eval_helpers::Gate;
-use nesl_service::service::{Observers, ServeFault, Terms, serve_on, serve_through};
-use nesl_service::wire::Patience;
-use nesl_service_records::journal::{Journal, NoJournal};
+use nesl_service::service::{ServeFault, serve_on};
 use std::alloc::{AllocError, Global};
 use std::net::{Net, TcpListener, TcpStream};
 use std::process::Abort;
@@ -11,51 +8,7 @@ use std::sync::Wait;
 use std::test::Fail;
 use std::thread;
 use std::thread::Threads;
-use std::time::{Clock, Duration};
-
-// Ten seconds for a first line, and no bound after that.
-pub fn patient() -> Patience {
-    Patience {
-        first_line: Duration::from_secs(10),
-        idle: None,
-    }
-}
-
-// How many lines are served to connections that are played, by these terms.
-pub fn lines_by<
-    R: Net<Listener = TcpListener, Stream = TcpStream> + Threads + Wait + Clock + Abort + Sync,
-    G: Gate + Sync,
->(rt: &R, alloc: Global, terms: Terms, gate: &G, rows: &str) -> Result<u128, Fail> {
-    let observers = Observers {
-        gate,
-        journal: &NoJournal,
-    };
-    lines_told(rt, alloc, terms, observers, rows)
-}
-
-// How many lines are served to connections that are played, by these terms and with these observers.
-pub fn lines_told<
-    R: Net<Listener = TcpListener, Stream = TcpStream> + Threads + Wait + Clock + Abort + Sync,
-    G: Gate + Sync,
-    J: Journal + Sync,
->(
-    rt: &R,
-    alloc: Global,
-    terms: Terms,
-    observers: Observers<'_, G, J>,
-    rows: &str,
-) -> Result<u128, Fail> {
-    let listener = TcpListener::bind(rt, "127.0.0.1:0")?;
-    let address = listener.local_addr()?;
-    let table = ann_and_bob(alloc)?;
-    let (played, closed) = thread::join(
-        rt,
-        || play(rt, alloc, address, rows),
-        || serve_through(rt, alloc, &listener, table, terms, observers),
-    );
-    played?;
-    Ok(closed?.lines)
-}
+use std::time::Clock;
 
 // Sessions outlast connections, and a user has one connection at a time. A user line is no form within a session.
 const TWO_USERS: &str = "0 > user ann
@@ -135,5 +88,18 @@ fn fault_texts(alloc: Global) -> Result<String, AllocError> {
 fn faults_have_texts(rt: HostRuntime) -> Result<(), Fail> {
     let wanted = "serve: socket fault, serve: no memory, serve: table fault, ";
     assert!(rt; fault_texts(rt.alloc())?.as_str() == wanted);
+    Ok(())
+}
+
+#[test]
+fn a_table_with_a_session_away_is_not_closed(rt: HostRuntime) -> Result<(), Fail> {
+    let listener = TcpListener::bind(&rt, "127.0.0.1:0")?;
+    let (table, other) = (ann_and_bob(rt.alloc())?, ann_and_bob(rt.alloc())?);
+    let Ok(lease) = table.take(&rt, b"bob") else {
+        panic!(rt; "bob's session is at home");
+    };
+    let served = serve_on(&rt, rt.alloc(), &listener, table, 1, 0, Some(0));
+    other.give(&rt, lease);
+    assert!(rt; served.err() == Some(ServeFault::Table));
     Ok(())
 }

@@ -1,10 +1,9 @@
-//! Tests of the service over sockets, and of what browsers ask for, by the public calls alone.
+//! Tests of the service over sockets, of eight threads that count, and of when helpers are asked for. `scripts/test`
+//! plays further clients and browsers to the program.
 #![tactic(auto)]
 
 #[cfg(test)]
 mod at_once;
-#[cfg(test)]
-mod browsers;
 #[cfg(test)]
 mod client;
 #[cfg(test)]
@@ -15,7 +14,3 @@ mod in_turn;
 mod receipts;
 #[cfg(test)]
 mod sparing;
-#[cfg(test)]
-mod telling;
-#[cfg(test)]
-mod waiting;

@@ -1,15 +1,14 @@
-//! Tests of tokens, trees, types, schemes, contexts, equations, built-in functions and unknown names, by the public
-//! calls alone.
+//! Tests of tokens, trees, types, schemes, contexts and equations, by the public calls alone.
 #![tactic(auto)]
 
 #[cfg(test)]
 mod contexts;
 #[cfg(test)]
+mod deep;
+#[cfg(test)]
 mod made;
 #[cfg(test)]
 mod rows;
-#[cfg(test)]
-mod scripts;
 #[cfg(test)]
 mod texts;
 #[cfg(test)]

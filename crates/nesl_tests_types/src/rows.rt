@@ -1,17 +1,19 @@
 //! Rows of what is asked and what is wanted, `ASKED => WANTED`. What is asked may have parts that are written many
 //! times: `a@3~b$@c` is `ab0b1b2c`.
 
+use crate::texts::push_number;
 use std::alloc::{AllocError, Global};
 use std::process::Abort;
 
 /// The number that a letter means in one of this many rounds, numbered from 0: `$` for that of the round and `&` for
 /// the next one, `!` and `?` for the same of the round that is as far from the end.
 fn number_of(letter: char, round: u64, count: u64) -> Option<u64> {
+    let left = count.saturating_sub(round);
     match letter {
         '$' => Some(round),
-        '&' => round.checked_add(1),
-        '!' => count.checked_sub(round)?.checked_sub(1),
-        '?' => count.checked_sub(round),
+        '&' => Some(round.saturating_add(1)),
+        '!' => Some(left.saturating_sub(1)),
+        '?' => Some(left),
         _ => None,
     }
 }
@@ -19,7 +21,7 @@ fn number_of(letter: char, round: u64, count: u64) -> Option<u64> {
 fn push_round(text: &mut String, part: &str, round: u64, count: u64) -> Result<(), AllocError> {
     for letter in part.chars() {
         match number_of(letter, round, count) {
-            Some(number) => write!(text, "{number}")?,
+            Some(number) => push_number("", number, text)?,
             None => text.push(letter)?,
         }
     }

@@ -1,10 +1,8 @@
-//! Tests of tokens, trees, types, equations, built-in functions and unknown names.
+//! Tests of tokens, trees, types and equations.
 
-mod builtins;
 mod equations;
 mod faults;
 mod forms;
-mod names;
 mod shown;
 mod tokens;
 mod types;

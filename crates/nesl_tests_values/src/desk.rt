@@ -1,16 +1,15 @@
 //! What the words of scripts do with values.
 
 use crate::telling::{push_comparison, push_number, push_truth, tell};
-use nesl_values::Value;
+use nesl_values::{Items, Value};
 use nesl_values_builder::SequenceBuilder;
 use std::alloc::{AllocError, Allocator, Global};
 
-/// Values and builders of sequences, of which the last ones are at hand.
+/// Values, of which the last ones are at hand.
 #[derive(Drop)]
 pub struct Desk {
-    pub alloc: Global,
-    pub values: Vec<Value>,
-    pub builders: Vec<SequenceBuilder>,
+    alloc: Global,
+    values: Vec<Value>,
 }
 
 /// The number that these digits are, or 0.
@@ -28,8 +27,8 @@ fn code_of(digits: &[u8]) -> u8 {
         .unwrap_or(0)
 }
 
-/// The numbers between commas.
-pub fn numbers_of(alloc: Global, list: &[u8]) -> Result<Vec<i64>, AllocError> {
+// The numbers between commas.
+fn numbers_of(alloc: Global, list: &[u8]) -> Result<Vec<i64>, AllocError> {
     let mut numbers = Vec::new(alloc);
     for word in str::from_utf8(list).unwrap_or("").split(',') {
         if let Ok(number) = word.parse::<i64>() {
@@ -39,8 +38,8 @@ pub fn numbers_of(alloc: Global, list: &[u8]) -> Result<Vec<i64>, AllocError> {
     Ok(numbers)
 }
 
-/// The truth values that these letters are.
-pub fn truths_of(alloc: Global, letters: &[u8]) -> Result<Vec<bool>, AllocError> {
+// The truth values that these letters are.
+fn truths_of(alloc: Global, letters: &[u8]) -> Result<Vec<bool>, AllocError> {
     let mut truths = Vec::new(alloc);
     for letter in letters {
         truths.push(*letter == b'T')?;
@@ -83,6 +82,13 @@ pub fn doubled<A: Allocator + Copy>(
     Ok(value)
 }
 
+// The sequence of copies of these elements.
+fn copies(alloc: Global, items: Items<'_>) -> Result<Value, AllocError> {
+    let mut builder = SequenceBuilder::new(alloc);
+    builder.extend_copies(items)?;
+    builder.finish()
+}
+
 // What a value is or has, which it stays or keeps.
 fn beside(alloc: Global, value: &Value, letter: u8, place: usize) -> Result<Value, AllocError> {
     let items = value.items();
@@ -91,6 +97,7 @@ fn beside(alloc: Global, value: &Value, letter: u8, place: usize) -> Result<Valu
         b'k' => value.copy_into(alloc),
         b'@' if place < items.len() => value.element(place).share(),
         b'^' if place < items.len() => items.at(place).share(),
+        b'~' if place <= items.len() => copies(alloc, items.part(0, place)),
         _ => Err(AllocError),
     }
 }
@@ -100,7 +107,6 @@ impl Desk {
         Desk {
             alloc,
             values: Vec::new(alloc),
-            builders: Vec::new(alloc),
         }
     }
 
@@ -124,21 +130,19 @@ impl Desk {
                 self.push(made(self.alloc, letter, rest))
             }
             b'p' | b't' | b's' | b'd' => self.make(letter, number_of(rest)),
-            b'y' | b'k' | b'@' | b'^' => self.make_beside(letter, number_of(rest) as usize),
+            b'y' | b'k' | b'@' | b'^' | b'~' => self.make_beside(letter, number_of(rest) as usize),
             b'!' => self.refuse(rest, text),
             b'x' | b'w' | b'>' | b'<' => self.turn(letter, text),
-            b'[' | b']' | b',' | b'+' | b'I' | b'B' | b'C' => self.build(letter, rest),
-            b'l' | b'&' | b'%' | b'|' | b'~' => self.put(letter, rest),
             _ => self.tell(letter, rest, text),
         }
     }
 
-    pub fn push(&mut self, value: Result<Value, AllocError>) -> Result<(), AllocError> {
+    fn push(&mut self, value: Result<Value, AllocError>) -> Result<(), AllocError> {
         self.values.push(value?)?;
         Ok(())
     }
 
-    pub fn pop(&mut self) -> Result<Value, AllocError> {
+    fn pop(&mut self) -> Result<Value, AllocError> {
         self.values.pop().ok_or(AllocError)
     }
 

@@ -3,7 +3,7 @@ use crate::desk::value_of;
 use crate::made::{Page, session, type_of};
 use nesl_reply::{Reply, Used};
 use nesl_scalars::Cost;
-use nesl_types::{Class, Context, Scheme, Ty};
+use nesl_types::{Class, Scheme, Ty};
 use nesl_values::Value;
 use std::alloc::{AllocError, Global};
 
@@ -77,11 +77,4 @@ fn of_each_kind(rt: HostRuntime) {
     let mut page = Page::new(rt.alloc(), session(rt.alloc()).expect(&rt, "memory"));
     put_replies(&mut page).expect(&rt, "memory");
     assert!(rt; page.text() == REPLIES);
-}
-
-#[test]
-fn of_no_names(rt: HostRuntime) {
-    let mut page = Page::new(rt.alloc(), Context::new(rt.alloc()));
-    page.reply(Reply::Names).expect(&rt, "memory");
-    assert!(rt; page.text() == b"names:\n".as_slice());
 }

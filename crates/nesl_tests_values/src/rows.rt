@@ -1,4 +1,4 @@
-//! Rows `SCRIPT => TOLD`: what a script tells of values and sequences that are built.
+//! Rows `SCRIPT => TOLD`: what a script tells of values.
 //!
 //! A script is words, each of which is a number, or begins with a letter or a sign. These make values:
 //!
@@ -7,15 +7,9 @@
 //! - `p` and `s` are the pair and the sequence of the last two values, and `t7` is the last one with a tag;
 //! - `d40` is the pair of the last one with itself, and so on, 40 times;
 //! - `y` shares the last one and `k` copies it; `@2` shares the element at a place of it, and `^2` the item there;
+//! - `~2` copies its first two elements;
 //! - `x` drops the last one, and `w` changes its place with the one before it;
 //! - `>` puts the two parts of a pair in its place, and `<` what has a tag, which it writes.
-//!
-//! These build sequences:
-//!
-//! - `[` begins a builder, and `[4` one with room; `]` puts what is built; `+` appends a builder to the one before it;
-//! - `,` pushes the last value, which goes; `l` pushes it as a leaf, `&` shared, and `%` as a copy;
-//! - `|1.3` pushes the elements of the last value between two places, shared, and `~1.3` as copies;
-//! - `I1,-2`, `BTF` and `Cab` push numbers, truth values and characters.
 //!
 //! These tell of the last value:
 //!
@@ -29,8 +23,10 @@ use std::alloc::{AllocError, Global};
 use std::process::Abort;
 
 const READ: &str =
-    "i3,-4,5 -1 cab p T '122 p bTF p s t7 p #19 #18 ? / > ? / w ? / => 19 none pair 4 14 (4, 14) 0 values tagged 7 13 7(13) 0 values sequence 3 [3] 3 ints
-i3,-4,5 -1 cab p T '122 p bTF p s t7 p > < # ? / => 7 13 sequence 2 [2] 2 values
+    "i3,-4,5 -1 cab p T '122 p bTF p s t7 p #19 #18 ? / => 19 none pair 4 14 (4, 14) 0 values
+-1 cab p T '122 p bTF p s t7 # ? / => 14 tagged 7 13 7(13) 0 values
+-1 cab p T '122 p bTF p s # ? / => 13 sequence 2 [2] 2 values
+i3,-4,5 # ? / => 4 sequence 3 [3] 3 ints
 -3 ? # / => int -3 -3 1 0 values
 T ? # / => bool true true 1 0 values
 '113 ? # / -3 = => char 113 '113 1 0 values false
@@ -38,24 +34,20 @@ T ? # / => bool true true 1 0 values
 1 > => none
 1 < => none";
 
-const BUILT: &str = "e # ? / k = x e = x 1 2 s = => 1 sequence 0 [0] 0 values true true false
+/// Sequences of nothing are the same in each way that they are held.
+const EMPTY: &str = "e # ? / k = x e = x 1 2 s = => 1 sequence 0 [0] 0 values true true false
 i # ? / k = x e = x 1 2 s = => 1 sequence 0 [0] 0 ints true true false
 b # ? / k = x e = x 1 2 s = => 1 sequence 0 [0] 0 bools true true false
-c # ? / k = x e = x 1 2 s = => 1 sequence 0 [0] 0 chars true true false
-[ ] # ? / k = x e = x 1 2 s = => 1 sequence 0 [0] 0 values true true false
-[4 1 , 2 l T l '99 l 5 % '100 & ] / @0 ? x @1 ? x @2 ? x @3 ? x @4 ? x @5 ? => 6 values int 1 1 int 2 2 bool true true char 99 '99 int 5 5 char 100 '100
-[ 0 l i1,2,3,4 |1.3 ] / i0,2,3 = => 3 ints true
-[ Cab BT I7 ] / @1 ? x @2 ? x @3 ? x [ ~0.3 I7 ] = => 4 values char 98 '98 bool true true int 7 7 true
-[ 1 l [ 2 l + ] / i1,2 = => 2 ints true
-[ 1 l [ 2 l + ] [ 1 l x [ 2 l x + [ & + [ 3 l x + ] / # @1 ? x @3 ? => 4 values 7 int 2 2 int 3 3
-i3,-4,5 -1 cab p T '122 p bTF p s t7 p [ & % ] [ |0.2 ~0.2 ] # / ^0 # x @3 i3,-4,5 -1 cab p T '122 p bTF p s t7 p = => 77 4 values 19 true";
+c # ? / k = x e = x 1 2 s = => 1 sequence 0 [0] 0 chars true true false";
 
 const SHARED: &str = "7 d40 # #1125899906842624 #1099511627776 => 2199023255551 2199023255551 none
 7 d63 # #18446744073709551615 #18446744073709551614 y !t0 y !d1 # => 18446744073709551615 18446744073709551615 none true true 18446744073709551615
 7 !d64 7 d63 !d0 # => true false 18446744073709551615
 i3,-4,5 -1 cab p T '122 p bTF p s t7 p y > # w # x w i3,-4,5 -1 cab p T '122 p bTF p s t7 p = x w < w x # > => 14 4 true 7 13 none
+1 T s ~2 = i1,2,3 ~2 i1,2 = => true true
 7 i3,-4,5 -1 cab p T '122 p bTF p s t7 p s @1 w x i3,-4,5 -1 cab p T '122 p bTF p s t7 p = => true
 i4 @0 ? => int 4 4
+1 2 s ^1 ? => int 2 2
 i1,2 #2 #3 1 2 s #2 #3 = x i1,2,3 = => none 3 none 3 true false
 1 t7 1 t8 = => false";
 
@@ -75,16 +67,8 @@ fn all_hold<R: Abort>(rt: &R, alloc: Global, rows: &str) {
 }
 
 #[test]
-fn of_what_is_read(rt: HostRuntime) {
-    all_hold(&rt, rt.alloc(), READ);
-}
-
-#[test]
-fn of_what_is_built(rt: HostRuntime) {
-    all_hold(&rt, rt.alloc(), BUILT);
-}
-
-#[test]
-fn of_what_is_shared(rt: HostRuntime) {
-    all_hold(&rt, rt.alloc(), SHARED);
+fn of_values(rt: HostRuntime) {
+    for rows in [READ, EMPTY, SHARED] {
+        all_hold(&rt, rt.alloc(), rows);
+    }
 }

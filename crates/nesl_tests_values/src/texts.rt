@@ -16,15 +16,15 @@ e : C S => ""
 e : I S => []
 i1,-2 : I S => [1, -2]
 bTF : B S => [T, F]
-[ '97 , '32 , '98 , ] : C S => "a b"
-[ '97 , '10 , ] : C S => [`a, code_char(10)]
+'97 '32 s : C S => "a "
+'97 '10 s : C S => [`a, code_char(10)]
 ca e s : C S S => ["a", ""]
-e [ 1 , ] s : I S S => [[], [1]]
+e i1 s : I S S => [[], [1]]
 1 2 p 3 p : I I P I P => ((1, 2), 3)
 1 2 3 p p : I I I P P => (1, 2, 3)
 3 4 p t0 : N0 => point(3, 4)
 1 2 p 3 p t1 : N1 => r((1, 2), 3)
-[ 1 2 p t0 , ] t2 : N2 => q([point(1, 2)])"#;
+1 2 p t0 3 4 p t0 s t2 : N2 => q([point(1, 2), point(3, 4)])"#;
 
 fn is_text(
     alloc: Global,

@@ -76,9 +76,8 @@ fn is_cut(alloc: Global, blanks: usize, wanted: &str) -> Result<bool, AllocError
 
 #[test]
 fn long_lines_are_cut(rt: HostRuntime) {
-    assert!(rt; is_cut(rt.alloc(), 65_534, NINE).expect(&rt, "memory"));
-    assert!(rt;
-        is_cut(rt.alloc(), 65_535, LONG).expect(&rt, "memory")
-            && is_cut(rt.alloc(), 90_000, LONG).expect(&rt, "memory")
-    );
+    let is_whole = is_cut(rt.alloc(), 65_534, NINE).expect(&rt, "memory");
+    let is_long = is_cut(rt.alloc(), 65_535, LONG).expect(&rt, "memory");
+    let is_longer = is_cut(rt.alloc(), 90_000, LONG).expect(&rt, "memory");
+    assert!(rt; is_whole && is_long && is_longer);
 }

@@ -198,11 +198,11 @@ fn who_is_turned_away(rt: HostRuntime) {
     let Ok(lease) = table.take(&rt, b"ann") else {
         panic!(rt; "ann is at home");
     };
-    assert!(rt; is_refused(&rt, alloc, &table, "user ann\n1;\n", "fault busy\n"));
-    assert!(rt; is_refused(&rt, alloc, &table, "user zed\n1;\n", "fault user\n"));
-    assert!(rt; is_refused(&rt, alloc, &table, "1;\nuser bob\n1;\n", "fault user\n"));
-    assert!(rt; is_refused(&rt, alloc, &table, "user bob \n", "fault user\n"));
+    let are_refused = is_refused(&rt, alloc, &table, "user ann\n1;\n", "fault busy\n")
+        && is_refused(&rt, alloc, &table, "user zed\n1;\n", "fault user\n")
+        && is_refused(&rt, alloc, &table, "1;\nuser bob\n1;\n", "fault user\n")
+        && is_refused(&rt, alloc, &table, "user bob \n", "fault user\n");
     table.give(&rt, lease);
-    let homes = (stored(&rt, &table, b"ann"), stored(&rt, &table, b"bob"));
-    assert!(rt; homes.0.is_some() && homes.1.is_some());
+    let are_home = stored(&rt, &table, b"ann").is_some() && stored(&rt, &table, b"bob").is_some();
+    assert!(rt; are_refused && are_home);
 }

@@ -106,6 +106,6 @@ fn a_line_is_entered_before_it_is_evaluated(rt: HostRuntime) {
         &Granting::always(),
         &watch,
     );
-    assert!(rt; served.lines == 5 && served.end == End::Input);
-    assert!(rt; watch.counts() == (149, 4, 4, 0));
+    let is_served = served.lines == 5 && served.end == End::Input;
+    assert!(rt; is_served && watch.counts() == (149, 4, 4, 0));
 }

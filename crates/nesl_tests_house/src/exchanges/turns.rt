@@ -1,65 +1,11 @@
 //! An answer comes before the next line is looked at.
-use crate::exchanges::devices::{blank_paper, tape_of};
 use crate::sample::house;
 use nesl_line::batch::batch;
 use nesl_line::device::Device;
-use nesl_line::exchange::{End, Ran, exchange};
-use nesl_line::hearer::{Hearer, Told};
-use std::alloc::Global;
+use nesl_line::exchange::{End, Ran};
 use std::cell::Cell;
 use std::io;
 use std::io::{Read, Write};
-
-// Hears one line, and nothing more.
-#[derive(Drop)]
-struct Once {
-    is_over: bool,
-}
-
-impl Hearer for Once {
-    ghost use Rattle.std.specs.Prelude.{⊤};
-
-    type World = usize;
-
-    ghost heard = { λ first start now world lines texts. ⊤ };
-
-    ghost over = { λ once. once.is_over };
-
-    ghost ready = { λ once world. ⊤ };
-
-    fn hear(&mut self, _alloc: Global, world: &mut usize, line: &[u8]) -> Told {
-        *world = line.len();
-        self.is_over = true;
-        Told::Back
-    }
-
-    fn is_over(&self) -> bool {
-        self.is_over
-    }
-}
-
-// Whether the first line is heard and answered, and nothing more.
-fn one_is_heard(alloc: Global, text: &str) -> bool {
-    let mut once = Once { is_over: false };
-    let mut heard = 0;
-    let mut reader = Device::new(tape_of(text.as_bytes(), 1000));
-    let mut writer = Device::new(blank_paper(alloc));
-    let ran = exchange(alloc, &mut reader, &mut writer, &mut once, &mut heard);
-    let one = Ran {
-        lines: 1,
-        end: End::Input,
-    };
-    ran == one && heard == 2 && writer.into_inner().bytes.as_slice() == b"ab\n".as_slice()
-}
-
-#[test]
-fn nothing_is_heard_once_all_is_over(rt: HostRuntime) {
-    assert!(rt;
-        one_is_heard(rt.alloc(), "ab\n")
-            && one_is_heard(rt.alloc(), "ab\nc\nd")
-            && one_is_heard(rt.alloc(), "ab")
-    );
-}
 
 // How many bytes a writer was given, and how many of them it had to hand on.
 #[derive(Drop)]

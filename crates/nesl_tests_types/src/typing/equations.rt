@@ -1,16 +1,11 @@
 //! Equations, and what solves them.
 
-ghost use Rattle.std.specs.Prelude.{OnOk};
-ghost use Rattle.nesl_unify.specs.Systems.{IsSystem};
-
 use crate::made::{class_named, type_of, variable};
 use crate::rows::{Subject, all_hold};
-use crate::texts::word_of;
+use crate::texts::{push_number, word_of};
 use nesl_types::{Class, Kind, Ty};
-use nesl_unify::Flat;
 use nesl_unify::narrow::{Member, members_are_below};
 use nesl_unify::solve::{Equation, Solution, are_below, is_below, solve};
-use nesl_unify::system::System;
 use std::alloc::{AllocError, Global};
 
 /// Adds an equation, `TYPE = TYPE`.
@@ -65,10 +60,10 @@ fn first_class(solution: &Solution) -> &'static str {
 fn push_variable_or_size(text: &mut String, ty: Result<Ty, AllocError>) -> Result<(), AllocError> {
     let ty = ty?;
     match ty.kind() {
-        Kind::Var(variable) => write!(text, " v{variable}"),
+        Kind::Var(variable) => push_number(" v", variable, text),
         _ => {
             let left = ty.room_left(5000).unwrap_or(0);
-            write!(text, " {}", 5000u64.saturating_sub(left))
+            push_number(" ", 5000u64.saturating_sub(left), text)
         }
     }
 }
@@ -168,64 +163,4 @@ const APART: &str = "2|both v0 seq v0 = both bool v1||v0 v1 => any 1 2
 fn equations_are_solved(rt: HostRuntime) {
     let tables = [SMALL, LARGE, CHAIN, LARGE_AND_EQUAL, SEQUENCES, APART];
     all_hold(&rt, rt.alloc(), &Solutions, &tables);
-}
-
-/// Whether the variable has this type.
-fn stands_for(alloc: Global, solution: &Solution, variable: u64, wanted: &Ty) -> bool {
-    match solution.variable(alloc, variable) {
-        Ok(ty) => ty.same(wanted),
-        Err(_) => false,
-    }
-}
-
-/// Adds that the first variable is the sequences of the second, where both are the system's.
-fn equate_sequence(system: &mut System, list: u64, item: u64) -> Result<(), AllocError>
-    requires { IsSystem system.old }
-    ensures { OnOk result (IsSystem system.new) }
-{
-    let count = system.len();
-    if list < count && item < count {
-        system.equate_flat(list, Flat::SeqOf(item))
-    } else {
-        Err(AllocError)
-    }
-}
-
-/// Adds that the variable is an instance of the type, which has no variables.
-fn equate_instance(
-    alloc: Global,
-    system: &mut System,
-    variable: u64,
-    ty: &Ty,
-) -> Result<(), AllocError>
-    requires { IsSystem system.old }
-    ensures { OnOk result (IsSystem system.new) }
-{
-    if variable < system.len() && is_below(0, ty) {
-        system.equate_instance(alloc, variable, &[], &ty.whole())
-    } else {
-        Err(AllocError)
-    }
-}
-
-/// Adds a variable for the sequences of another, and that it is the type.
-fn add_sequences(alloc: Global, system: &mut System, ty: &Ty) -> Result<u64, AllocError>
-    requires { IsSystem system.old }
-    ensures { OnOk result (IsSystem system.new) }
-{
-    let list = system.fresh(Class::Any)?;
-    let item = system.fresh(Class::Number)?;
-    equate_sequence(system, list, item)?;
-    equate_instance(alloc, system, list, ty)?;
-    Ok(list)
-}
-
-#[test]
-fn systems_are_solved(rt: HostRuntime) {
-    let mut system = System::new(rt.alloc());
-    let numbers = type_of(rt.alloc(), "seq int").expect(&rt, "memory");
-    let list = add_sequences(rt.alloc(), &mut system, &numbers).expect(&rt, "memory");
-    assert!(rt; system.len() == 2);
-    let solution = system.solve(rt.alloc()).expect(&rt, "a solution");
-    assert!(rt; stands_for(rt.alloc(), &solution, list, &numbers));
 }

@@ -163,6 +163,7 @@ datatype p int => Syntax
 datatype p int int; => Syntax
 function f(x) = x; => Syntax
 function g(x) = x => Syntax
+function add(a, b) = a + b => Syntax
 function g = x; => Syntax
 function g(1) = x; => Syntax
 function g(x) : int = x; => Syntax

@@ -6,12 +6,6 @@ use nesl_syntax::{ParseFault, parse_form};
 use nesl_syntax_tree::tree::Form;
 use std::alloc::{AllocError, Global};
 
-/// The form of a line; nothing where it has none.
-pub fn form_of(alloc: Global, line: &str) -> Option<Form> {
-    let tokens = lex(alloc, line.as_bytes()).ok()?;
-    parse_form(alloc, tokens.as_slice()).ok()
-}
-
 /// What a form's text has too much of, and after a `~` what replaces it.
 const SHORTER: &str =
     "Name { letters: ~\nTypeExp { span: Span { start: ~\nExp { span: Span { start: ~\nPattern { span: Span { start: ~\n\

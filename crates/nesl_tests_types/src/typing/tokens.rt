@@ -1,6 +1,7 @@
 //! Lines and their tokens, by hand from the rules.
 
 use crate::rows::{Subject, all_hold};
+use crate::texts::push_number;
 use nesl_lex::token::Token;
 use nesl_lex::{LexFault, lex};
 use std::alloc::{AllocError, Global};
@@ -28,6 +29,7 @@ x %abc => lexical at 2"#;
 
 const NUMBERS_NAMES_AND_TRUTH_VALUES: &str =
     r#"9223372036854775807 => 0..19 Number(9223372036854775807)
+9223372036854775808; => lexical at 0
 1 9223372036854775808 => lexical at 2
 1 18446744073709551617 => lexical at 2
 00000000000000000000000000000009 => 0..32 Number(9)
@@ -89,8 +91,9 @@ const MANY_DIGITS: &str = "@65000~0@ => 0..65000 Number(0)\n1@64999~0@ => lexica
 
 fn push_token(text: &mut String, token: &Token) -> Result<(), AllocError> {
     let before = if text.is_empty() { "" } else { "; " };
-    let (start, end) = (token.span.start, token.span.end);
-    write!(text, "{before}{start}..{end} {:?}", token.kind)
+    push_number(before, token.span.start as u64, text)?;
+    push_number("..", token.span.end as u64, text)?;
+    write!(text, " {:?}", token.kind)
 }
 
 fn push_tokens(text: &mut String, tokens: &[Token]) -> Result<(), AllocError> {
@@ -120,7 +123,7 @@ impl Subject for Tokens {
                 push_tokens(text, tokens.as_slice())?;
                 shorten_names(alloc, text)
             }
-            Err(LexFault::Lexical { at }) => write!(text, "lexical at {at}"),
+            Err(LexFault::Lexical { at }) => push_number("lexical at ", at as u64, text),
             Err(LexFault::Memory) => Err(AllocError),
         }
     }
