@@ -1,6 +1,6 @@
 """The page in a browser, as scripts/check_page sees it: what serves it, the wire to it, the browser, and a tab.
 
-What isn't installed is told once, with how it is had. A tab fails by `Failed`, as the tests of the program do.
+What isn't installed is reported once, with how to install it. A tab fails by `Failed`, as the tests of the program do.
 """
 import os
 import select
@@ -154,7 +154,7 @@ class Wire:
 
 
 def browser():
-    """A browser that nobody sees."""
+    """A browser without a window."""
     for file, package in ((CHROMIUM, "chromium"), (DRIVER, "chromium-driver")):
         if not os.path.exists(file):
             sys.exit(f"{file} is missing: apt-get install {package}")
@@ -204,7 +204,7 @@ class Tab:
         return self.driver.execute_script(script, *words)
 
     def module(self, file, expression):
-        """What an expression over a module of the page comes to."""
+        """What an expression over a module of the page evaluates to."""
         return self.driver.execute_async_script(
             "const done = arguments[1]; import(arguments[0]).then((page) => done(%s)).catch((no) => done(String(no)));"
             % expression, f"{self.address}{file}")
@@ -251,13 +251,13 @@ class Tab:
         self.settle()
 
     def reload(self):
-        """Loads the page anew, and waits until its user is seated again."""
+        """Loads the page again, and waits until its user is seated again."""
         self.driver.refresh()
         self.until(lambda: self.module("session.js", "page.session.seated") is True, "the user is seated again")
         self.settle()
 
     def settle(self):
-        """Waits until nothing is said any more: what the page wants to know it asks soon."""
+        """Waits until nothing is sent any more: what the page wants to know it asks soon."""
         self.driver.execute_async_script(SETTLED, self.address + "session.js")
 
     def write(self, text):

@@ -1,6 +1,6 @@
 """What several scripts share: the repository, programs over its crates, another program, and the program at work.
 
-A script in a folder puts this folder on the path first. Modules that stand in folders are imported with the folder's
+A script in a folder puts this folder on the path first. Modules that are in folders are imported with the folder's
 name, so that each is one module. What a script starts is killed by whoever runs it, so nothing here waits for a program
 that doesn't end.
 """
@@ -39,7 +39,7 @@ ONE = ("1 + 1;", "it = 2 : int (work 3, depth 3)")
 # Words and scripts.
 
 def given_words(doc):
-    """The words of the command line. `--help` tells what they may be, and ends."""
+    """The words of the command line. `--help` prints what they may be, and ends."""
     if sys.argv[1:2] in (["-h"], ["--help"]):
         print(doc.strip())
         sys.exit()
@@ -70,7 +70,7 @@ def crates():
 
 
 def standing(uses):
-    """These crates and those of this repository that they stand on, lowest first: each with its line."""
+    """These crates and those of this repository that they are built on, lowest first: each with its line."""
     listed, wanted, found = crates(), list(uses), set()
     below = {name: line.split(":", 1)[1].split() for name, line in listed.items()}
     named = {*listed, *itertools.chain(*below.values())}
@@ -85,8 +85,8 @@ def standing(uses):
 
 
 def made_crate(folder, name, uses, text, keeps=False):
-    """Makes a program of this text over the crates that it uses, in a folder of its own, where what they stand on is
-    copied; with `keeps`, what their checks kept in out/ is used again. Answers the crate's folder."""
+    """Makes a program of this text over the crates that it uses, in a folder of its own, where what they are built on
+    is copied; with `keeps`, what their checks kept in out/ is used again. Answers the crate's folder."""
     below = standing(uses.split())
     left = None if keeps else shutil.ignore_patterns("out")
     for one in below:
@@ -126,8 +126,8 @@ def written(folder, cases):
 
 
 def tried(crate, folder, cases, seconds=60):
-    """The lines that the program of a crate prints for each of these texts, each in so many seconds: it is built once,
-    without a proof."""
+    """The lines that the program of a crate prints for each of these texts, each in this number of seconds: it is built
+    once, without a proof."""
     cases = {f"{place:06}": text for place, text in enumerate(cases)}
     cases = written(Path(folder, "cases"), cases)
     return output(["rt", "try", "--steps", "1", "--seconds", str(seconds), "--cases", cases], crate).split("\n")
@@ -135,7 +135,7 @@ def tried(crate, folder, cases, seconds=60):
 
 class Refusing:
     """The program of a crate of tests, as it was built last, of which each run is refused the request for memory of
-    this number, if it makes so many. `refused_request.c` is loaded before it, which `cc` compiles."""
+    this number, if it makes that many. `refused_request.c` is loaded before it, which `cc` compiles."""
 
     def __init__(self, crate, request, seconds):
         self.program, self.seconds = TOP / "crates" / crate / "out" / crate, seconds
@@ -168,13 +168,13 @@ class Refusing:
 # The rows of nesl_tests_runs.
 
 class Row:
-    """A row with the lines of its answer, and the title that it stands under."""
+    """A row with the lines of its answer, and the title that it is under."""
 
     def __init__(self, title, line):
         self.title, self.line, self.answer = title, line, []
 
     def said(self):
-        """The text that is said, or None where the row is a directive."""
+        """The text that is sent, or None where the row is a directive."""
         return self.line[2:] if self.line.startswith(">") else None
 
     def lines(self):
@@ -264,7 +264,7 @@ class Skipped(Exception):
 
 
 def judge(wrong):
-    """Fails where something was wrong, and tells the first of it."""
+    """Fails where something was wrong, and reports the first of it."""
     if wrong:
         more = f" (and {len(wrong) - 3} more)" if len(wrong) > 3 else ""
         raise Failed("; ".join(str(one) for one in wrong[:3]) + more)
@@ -358,7 +358,7 @@ class Process:
         return self.run.stdout.readline().decode("latin-1").rstrip("\n")
 
     def listens(self, seconds=PATIENCE):
-        """Whether it comes to listen, or else ends."""
+        """Whether it begins to listen, or else ends."""
         first = self.first_line(seconds)
         if first.startswith("listening on 127.0.0.1:"):
             self.port = int(first.rsplit(":", 1)[1])
@@ -456,7 +456,7 @@ class Client:
         self.socket.sendall(text.encode("latin-1"))
 
     def line(self):
-        """The next line of the answers; an end is told as such."""
+        """The next line of the answers; an end is reported as such."""
         got = self.patiently(self.replies.readline, "no answer came")
         return got[:-1].decode("latin-1") if got.endswith(b"\n") else f"(the end) {got.decode('latin-1')}".strip()
 
@@ -482,11 +482,11 @@ class Client:
             raise Failed(f"{why} within {self.socket.gettimeout():.0f} s") from None
 
     def halt(self):
-        """Says that no more is said."""
+        """Says that no more is sent."""
         self.socket.shutdown(socket.SHUT_WR)
 
     def leave(self):
-        """Says that no more is said; nothing more may come."""
+        """Says that no more is sent; nothing more may come."""
         self.halt()
         rest = self.rest()
         demand(not rest, f"after the last answer came {short(rest)}")
@@ -505,8 +505,8 @@ def sockets_end(client, seconds=PATIENCE):
 
 
 def seated(service, user, seconds=5, connect=None):
-    """A connection with this user's seat, once that is free, and after how many seconds. Who had it sees the end of that
-    connection a moment before it is."""
+    """A connection with this user's seat, once that is free, and after how many seconds. The user who had it sees the
+    end of that connection a moment before it is."""
     connect = connect or service.client
     begun = time.monotonic()
     while time.monotonic() < begun + seconds:

@@ -7,7 +7,7 @@ kind, and what it has.
     ["p", "A text with `code`."]    a paragraph, in which `..` is code and *..* is emphasis
     ["list", ["..", ".."]]          a list of such texts
     ["table", [["..", ".."], ..]]   rows of such texts, the first being the head
-    ["code", "work  2n + 3"]        lines that nobody says
+    ["code", "work  2n + 3"]        lines that aren't sent
     ["say", ["1 + 1;", ".."]]       a block: its forms, without replies; the parts of a form have line breaks between
 """
 import json

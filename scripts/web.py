@@ -1,7 +1,7 @@
 """The page's port of the program, as scripts speak to it: requests, and users over WebSockets.
 
 A `WebClient` is used as a `Client` of lib.py is, which speaks to the port for lines: each line that it sends is a text
-message, and each answer is one. It sends what it is told to, whether the service takes it or not.
+message, and each answer is one. It sends what it is asked to, whether the service takes it or not.
 """
 import base64
 import os
@@ -29,7 +29,7 @@ def heard(data):
 
 
 def request(path="/", method="GET", host="127.0.0.1", **more):
-    """A request; an underscore in a name stands for a dash."""
+    """A request; an underscore in a name means a dash."""
     rows = {"Host": host, **{name.replace("_", "-"): value for name, value in more.items()}}
     return f"{method} {path} HTTP/1.1\r\n" + "".join(f"{name}: {value}\r\n" for name, value in rows.items()) + "\r\n"
 
@@ -95,7 +95,7 @@ class WebClient(Client):
         return kind, b"".join(pieces)
 
     def line(self):
-        """The next answer; an end is told as such, with its code."""
+        """The next answer; an end is reported as such, with its code."""
         kind, data = self.patiently(self.message, "no answer came")
         if kind == TEXT:
             return data.decode("latin-1")
@@ -109,7 +109,7 @@ class WebClient(Client):
         return "".join(told)
 
     def halt(self):
-        """Says that no more is said."""
+        """Says that no more is sent."""
         self.say(CLOSE, struct.pack(">H", 1000))
 
     def is_ended(self, code):

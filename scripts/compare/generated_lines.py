@@ -7,8 +7,8 @@ nests.
 INT, BOOL, CHAR = "int", "bool", "char"
 
 
-# Types are the words for scalars, the name of a datatype, ("seq", T), ("pair", T, U), and ("any", NAME, CLASS) for what a
-# parameter of unknown type has.
+# Types are the words for scalars, the name of a datatype, ("seq", T), ("pair", T, U), and ("any", NAME, CLASS) for what
+# a parameter of unknown type has.
 
 def seq(ty):
     return ("seq", ty)
@@ -78,8 +78,8 @@ CALLS = [
     ("[{} : {}]", [INT, INT], seq(INT)), ("[{} : {} : {}]", [INT, INT, INT], seq(INT)),
     ("({}, {})", [A, B], pair(A, B)), ("(if {} then {} else {})", [BOOL, A, A], A),
 ]
-# Calls of scalars alone, and sequences of so many places, with how many there are of each: around the ends of the blocks
-# in which plain bodies are evaluated.
+# Calls of scalars alone, and sequences of a number of places, with how many there are of each: around the ends of the
+# blocks in which plain bodies are evaluated.
 SCALARS = [row for row in CALLS
            if all(isinstance(ty, str) or ty[0] == "any" and ty[2] != "any" for ty in [*row[1], row[2]])]
 PACKED = {INT: ["index({})", "reverse(index({}))", "[0 : {}]", "dist(5, {})", "{{a - 5 : a in index({})}}",
@@ -143,7 +143,7 @@ class Session:
         if isinstance(ty, tuple):
             return rng.choice(known) if known else rng.choice(UNKNOWN)
         if ty in self.datatypes and ty not in self.inside:
-            # A datatype may hold another that was defined anew by way of it.
+            # A datatype may hold another that was defined again by way of it.
             self.inside.append(ty)
             text = f"{ty}({self.leaf(self.datatypes[ty], scope)})"
             self.inside.pop()
@@ -247,7 +247,7 @@ class Session:
     # names outside, `let` and `if`, and pairs.
 
     def named(self, names, ty):
-        """A name of this type, if there is one. What stands first hides what stands behind."""
+        """A name of this type, if there is one. What comes first hides what comes after."""
         seen, known = set(), []
         for name, found in names:
             if found == ty and name not in seen:

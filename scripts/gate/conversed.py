@@ -1,6 +1,6 @@
-"""Conversations that stand in files, as scripts/test says them to the program.
+"""Conversations that are in files, as scripts/test sends them to the program.
 
-A file of scripts/gate/talks has conversations, each behind a title and the words that the program is called with:
+A file of scripts/gate/talks has conversations, each below a title and the words that the program is called with:
 
     == two users take turns
     @ batch ann bob
@@ -9,7 +9,7 @@ A file of scripts/gate/talks has conversations, each behind a title and the word
     >> 1 + 1;\\r\\n
     it = 2 : int (work 3, depth 3)
 
-Behind `> ` stands a line that is said, behind `>> ` text that is said with Python's escapes and with no line end of
+After `> ` is a line that is sent, after `>> ` text that is sent with Python's escapes and with no line end of
 its own; anything else is the next line of the answers. `(end)` is the end of the input. A batch is said twice: line by
 line, each answer before what is said next, and all at once.
 
@@ -114,7 +114,7 @@ class Pipe:
         self.run.stdin.flush()
 
     def line(self, seconds=PATIENCE):
-        """The next line of the answers; an end is told as such."""
+        """The next line of the answers; an end is reported as such."""
         until = time.monotonic() + seconds
         while b"\n" not in self.got:
             if not select.select([self.run.stdout], [], [], max(0, until - time.monotonic()))[0]:

@@ -2,19 +2,20 @@
 
 A definition is believed where a public clause mentions it: a `requires` or an `ensures` of a public function, or what a
 public type is to its callers; or where a definition that is believed mentions it. Those that the claim's calls mention
-are the claim's; the prover alone holds the others to each other. Words of the kit's library count too, but for those of
-its Prelude.
+are the claim's; the prover alone holds the others to each other. Words of the kit's library count too, those of its
+Prelude included.
 """
 import re
 from collections import defaultdict, namedtuple
 
+from gate.library import signs_in
 from lib import TOP, crates as listed
 
 KIT = "std"
 
 # The calls whose clauses are the claim: a function, one of a type, or a type or trait with all of its calls.
 CLAIM = (
-    "House::new", "House::users", "House::run", "House::run_with", "Answer::bytes", "own_lines_decide",
+    "answer_text", "House::new", "House::users", "House::run", "House::run_with", "Answer::bytes", "own_lines_decide",
     "batch", "Source", "Sink", "serve", "Table",
 )
 
@@ -54,7 +55,7 @@ def without_comments(text, mark):
 
 
 def crates():
-    """The names of the crates, each after those that it stands on."""
+    """The names of the crates, each after those that it is built on."""
     there, order = sorted(path.parent.name for path in TOP.glob("crates/*/src")), listed()
     return [crate for crate in order if crate in there] + [crate for crate in there if crate not in order]
 
@@ -157,7 +158,7 @@ class Definitions:
         if place in self.owner:
             return self.owner[place]
         crate, file, name = place
-        if crate == KIT and not file.startswith("Prelude"):
+        if crate == KIT:
             return place
         passed = self.scope.get((crate, file), ({}, {}))[0].get(name)
         return self.find(passed) if passed and passed != place else None
@@ -180,6 +181,7 @@ class Definitions:
             else:
                 continue
             found.add(self.find(place))
+        found |= {self.find(names[sign]) for sign in signs_in(text, names)}
         return {place for place in found if place}
 
     def within(self, place):
@@ -246,7 +248,7 @@ def public_items(crate):
 
 
 def head(line):
-    """The type or trait whose block a line opens, and whether all that stands there is public; or nothing."""
+    """The type or trait whose block a line opens, and whether all that is there is public; or nothing."""
     if re.match(r"pub trait\b", line):
         return re.match(r"pub trait (\w+)", line).group(1), True
     if re.match(r"(unsafe )?impl\b", line):
@@ -386,6 +388,15 @@ def closure(definitions, reason):
     return reason
 
 
+def between_crates(claim):
+    """What public clauses mention besides the claim: each crate with its files, each with its definitions in order."""
+    order = claim.definitions.order
+    by_crate = defaultdict(lambda: defaultdict(list))
+    for place in sorted(claim.between, key=lambda place: (order.get(place, 0), place)):
+        by_crate[place[0]][place[1]].append(place)
+    return [(crate, by_crate[crate]) for crate in [*crates(), KIT] if crate in by_crate]
+
+
 def title(call):
     """How the claim names a call."""
     return f"{call.owner}::{call.name}" if call.owner else call.name
@@ -433,7 +444,7 @@ class Claim:
         return list(found)
 
     def parted(self):
-        """The claim's definitions by section: its title, and its files, each with its definitions as they stand."""
+        """The claim's definitions by section: its title, and its files, each with its definitions as they are."""
         left = defaultdict(list)
         for place in sorted((place for place in self.needed if place[0] != KIT), key=self.definitions.order.get):
             left[place[:2]].append(place)
@@ -453,7 +464,10 @@ class Claim:
         return sections
 
     def kit_words(self, places):
-        return sorted(place[1:] for place in places if place[0] == KIT)
+        """Those of these definitions that are words of the kit's library; its Prelude only passes words on."""
+        words = {place[1:] for place in places if place[0] == KIT}
+        elsewhere = {name for file, name in words if file != "Prelude"}
+        return sorted((file, name) for file, name in words if file != "Prelude" or name not in elsewhere)
 
     def types_in(self, places):
         """The types of the code that these definitions mention, and those of their public fields and variants."""

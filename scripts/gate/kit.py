@@ -3,7 +3,7 @@
 
     scripts/gate/kit.py ci        `rt ci`, in this folder
 
-What stands below a crate, and the sum of its text and theirs, `rt` works out anew at each question: along all ways from
+What is below a crate, and the sum of its text and theirs, `rt` works out again at each question: along all ways from
 the crate down, of which the program has more than a million. Here each crate is asked once. Nothing else is changed.
 """
 import functools

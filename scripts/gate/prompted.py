@@ -39,7 +39,7 @@ def ran(program, *words, text=b"", **how):
 
 
 def told(program, text, *words):
-    """What a prompt tells of a text, which it has to hear to its end."""
+    """What a prompt answers to a text, which it has to read to its end."""
     out, status, complaint = ran(program, "repl", *words, text=text)
     demand(status == 0 and not complaint, f"{ending(status)} {short(complaint)}")
     return out
@@ -89,7 +89,7 @@ class Terminal:
         return False
 
     def shows(self, text):
-        """Waits until the screen ends so, behind what was typed last."""
+        """Waits until the screen ends so, after what was typed last."""
         until = time.monotonic() + PATIENCE
         while len(self.seen()) < self.least or not self.seen().endswith(text):
             demand(self.reads(until), f"it ended behind {short(self.seen()[-200:])}")
@@ -122,7 +122,7 @@ def is_typed(line):
 
 @check("transcripts of README.md")
 def shown(program):
-    """What the terminal shows is what stands there."""
+    """What the terminal shows is what is there."""
     found = transcripts()
     demand(found, f"there is no block that begins with `{COMMAND}`")
     for block in found:
@@ -190,7 +190,7 @@ def in_terminal(program):
 
 @check("a prompt at 80 columns")
 def narrow(program):
-    """No line that it tells of a fault or for help is wider."""
+    """No line that it writes below a fault or for help is wider."""
     asked = [":help", *(f":help {name}" for name in help_names(program)), *WRONG]
     with Terminal(program, "repl") as it:
         it.shows("\n> ")
@@ -226,7 +226,7 @@ def help_names(program):
 
 @check("a prompt over pipes is its session")
 def piped(program):
-    """Replies alone are told, as a batch tells them, be a line one form or a form several lines."""
+    """Replies alone are written, as a batch writes them, whether a line is one form or a form has several lines."""
     lines = [line for line in lines_said(11, 400) if line.endswith((b";", b"\\")) and not line.startswith(b":")]
     text = b"".join(line + b"\n" for line in lines)
     batch, _, _ = ran(program, "batch", "ann", text=b"user ann\n" + text)
@@ -256,7 +256,7 @@ def piped_hints(program):
 
 @check("--hints in a batch")
 def batch_hints(program):
-    """Below a fault stands one line that begins with `hint: `, and all else is as without them."""
+    """Below a fault is one line that begins with `hint: `, and all else is as without them."""
     lines = [b"user ann", *lines_said(12, 300), *(line.encode() for line in WRONG)]
     lines += [b"1 + \\", b"y;", b"user zed", b"1;"]
     text = b"".join(line + b"\n" for line in lines)

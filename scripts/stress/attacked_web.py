@@ -29,7 +29,7 @@ def mutes(port, count, head=b""):
 
 @case(120)
 def browsers_that_keep_out(program):
-    """12 mute connections kept 8 users out for 10 s, and 12 late heads for 21 s: 12 keep nobody out; figures."""
+    """12 mute connections kept 8 users out for 10 s, and 12 late heads for 21 s: 12 keep no user out; figures."""
     figures = []
     for count in (12, 24, 48):
         for kind, head in (("mute", b""), ("without a first line", upgrade().encode())):

@@ -461,6 +461,8 @@ WORST = {
                                                      pattern="tree", step=1, arity=1)),
     "large pairs of 1,900 names": ("instances", dict(kind="pair", nodes=4091, names=1900, calls=1900, wrap="count",
                                                      pattern="tree", step=1, arity=1)),
+    "two variables of large types": ("known_names", dict(variables=2, nodes=4000, kind="sequence", part="#[{0}]")),
+    "a variable again and again": ("known_names", dict(variables=1, nodes=4000, kind="sequence", part="{0}")),
     "a name deep in a pattern": ("deep_pattern", dict(names=1312, levels=49, side="right", used="high")),
     "a name of the first of 80 lets": ("uses", dict(names=3000, pattern="lets", used="first", part="{}")),
     "names that become trees": ("many_variables", dict(arity=1476, names=1345, share="many", gives="ignored",

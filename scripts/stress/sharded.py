@@ -58,7 +58,7 @@ class Shard(Process):
         self.port = int(self.own["PORT"])
 
     def expanded(self, word):
-        """A word of a command line: `$NAME` alone stands for the words of a setting, `${NAME}` for its text."""
+        """A word of a command line: `$NAME` alone means the words of a setting, `${NAME}` its text."""
         if re.fullmatch(r"\$[A-Z]+", word):
             return self.own[word[1:]].split()
         return [re.sub(r"\$\{([A-Z]+)\}", lambda found: self.own[found[1]], word)]
@@ -161,7 +161,7 @@ def heard(port, parts, ends, seconds=PATIENCE):
 
 
 def heard_of_flood(port, count, seconds=PATIENCE):
-    """Says so many bytes without a line end, as far as they are taken: how many that were, and all that came."""
+    """Sends this number of bytes without a line end, as far as they are taken: how many, and all that came."""
     sent, got, until = 0, b"", time.monotonic() + seconds
     with Client(port) as client:
         client.socket.setblocking(False)
