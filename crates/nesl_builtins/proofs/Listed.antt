@@ -1,4 +1,4 @@
--- What is told to be types is types.
+-- What is listed as types is types.
 use Rattle.std.proofs.Common.{◌≡◌, ℕ, zero, suc, ◌+◌, ◌<◌, Bool as Bool', true, false, not, ◌||◌, nat_eq, nat_lt, List, [], ◌∷◌, length, refl, sym, ap, subst, ◌∙◌, arith}
 use Rattle.std.proofs.lemmas.Bool.{and_parts, not-true, ltb-true, eq-eqb, and_from, true≢false}
 use Rattle.std.specs.List.{list_any}

@@ -5,7 +5,7 @@ use Rattle.std.specs.Prelude.{Some, None}
 use Rattle.std.specs.Str.{bytes_eq}
 use Rattle.nesl_builtins.specs.Named.{look_up, builtin_named}
 
--- whether a letter stands from the one to before the other
+-- whether a letter is from the one to before the other
 abbrev pub is_near : ℕ → ℕ → ℕ → Bool
 is_near low high b = nat_lt b high && not (nat_lt b low)
 
@@ -39,7 +39,7 @@ module _ {X : Type 0} (low high b : ℕ) (bs : List ℕ) (is : is_near low high 
   found_near (([], v) ∷ es) = found_near es
   found_near ((c ∷ cs, v) ∷ es) = one c cs v es (found_near es) (is_near low high c) refl
 
--- a name of which so much is known
+-- a name whose first bytes are known
 pub begun : {X : Type 0} (low high b : ℕ) (bs : List ℕ) (es : List (List ℕ × X)) → low ≤ b → b < high →
     look_up (b ∷ bs) es ≡ look_up (b ∷ bs) (near low high es)
 begun low high b bs es from to =

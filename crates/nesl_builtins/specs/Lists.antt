@@ -33,7 +33,7 @@ abbrev pub are_made : ℕ → List Shape → Bool'
 are_made n [] = true
 are_made n (s ∷ ss) = is_below n s && are_made (suc n) ss
 
--- whether none stands twice
+-- whether none occurs twice
 abbrev pub are_apart : List Shape → Bool'
 are_apart [] = true
 are_apart (s ∷ ss) = not (list_any (is_equal s) ss) && are_apart ss

@@ -88,7 +88,7 @@ then_value (value x w d) = two (omega arith) (omega arith)
     two : {X : Type 0} {x : X} {m n i j : ℕ} → m ≡ n → i ≡ j → value x m i ≡ value x n j
     two p q = cc
 
--- what follows may be any function that comes to the same
+-- what follows may be any function that evaluates to the same
 pub then_same : {X Y : Type 0} (o : Out X) (h k : X → Out Y) → ((x : X) → h x ≡ k x) → and_then o h ≡ and_then o k
 then_same stuck h k e = refl
 then_same (fault t s w) h k e = refl

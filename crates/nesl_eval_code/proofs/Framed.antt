@@ -197,7 +197,7 @@ found_nowhere x bs f = sym (spot_of_none x (patterns (binders_in bs)) (sym f))
 pub noted_all : (bs : List Binding) (i : ℕ) (es : List (Vec ℕ Global × NamePlace)) → length bs ≤ i → AreNoted (patterns_before bs i) es → AreNoted (patterns (binders_in bs)) es
 noted_all bs i es l h x = h x ∙ ap (λ y. spot_in (patterns (binders_in y)) x) (take_all i bs l)
 
--- the patterns of a frame of which so many bindings are seen
+-- the patterns of a frame of which `n` bindings are seen
 pub before_is : (fs bs : List Binding) (n i : ℕ) → fs ≡ bs → n ≡ i → patterns_before fs n ≡ patterns_before bs i
 before_is fs bs n i e f = ap (λ (y : List Binding). patterns_before y n) e ∙ ap (λ (k : ℕ). patterns_before bs k) f
 

@@ -49,7 +49,7 @@ span-Each s v c = search (rules, the_lemmas)
 span-FilteredEach : (s : Span) (v : Vec Code Global) (c d : Box Code Global) → code_span (code.FilteredEach s v c d) ≡ s
 span-FilteredEach s v c d = search (rules, the_lemmas)
 
--- parts after those that came to `vs`
+-- parts after those that evaluated to `vs`
 abbrev put_after : List Value → Out (List Value) → Out (List Value)
 put_after vs o = and_then o (λ us. value (vs ++ us) 0 0)
 

@@ -9,7 +9,7 @@ use Rattle.nesl_eval_meaning.specs.Names.{Name, Value, Locals, Scope, with_names
 use Rattle.nesl_eval_code.specs.Frames.{followed, local_at, frame}
 use Rattle.nesl_eval_code.specs.Means.{Layer, bindings, binders, bound_all, layered, binds, steps_to, last_binding, or_later, Spot, spot, patterns_of, IsSpotOf, IsNoLocal, IsElementSpot, with_element}
 
--- a pattern that doesn't bind the name leaves what it stands for
+-- a pattern that doesn't bind the name leaves what the name means
 or_none : (a b : Bool) → (a || b) ≡ false → (a ≡ false) × (b ≡ false)
 or_none true b e = absurd cc
 or_none false b e = (refl, e)
@@ -39,7 +39,7 @@ unbound x (pattern s (pair_pattern p q)) v ns ms f e = parts (unbound x p) (unbo
     parts l r None h = absurd cc
     parts l r (Some b) h = behind l r b (bound p b.0 ns) refl h
 
--- what a name stands for in a pattern's value
+-- what a name means in a pattern's value
 abbrev pub Leads : Name → List Step → Value → Locals → Type 0
 Leads x steps v ms = (w : Value) × (followed steps v ≡ Some w) × (look_up ms x ≡ Some w)
 

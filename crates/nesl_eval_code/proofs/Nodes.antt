@@ -1,4 +1,4 @@
--- The code of a node stands for the node, where the codes of its parts stand for its parts.
+-- The code of a node means the node, where the codes of its parts mean its parts.
 use Rattle.std.proofs.Common.{◌≡◌, ℕ, zero, suc, refl, sym, ◌∙◌, ap, subst, List, map, Some, None, Bool, min, ℤ, pos}
 use Rattle.std.proofs.Common.{Vec, Box, Global}
 use Rattle.std.specs.Prelude.{length}

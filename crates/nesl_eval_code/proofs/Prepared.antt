@@ -113,7 +113,7 @@ pub boxed_shown : (names : List Name) (ls : List Layer) (r : Result (Box Code Gl
     shape_of d ≡ k → IfOk r (λ b. Means names ls b.value (node s k)) → IfOk r (λ b. Means names ls b.value (node s (shape_of d)))
 boxed_shown names ls r s k d q h = let F : Shape → Type 0 = λ x. IfOk r (λ b. Means names ls b.value (node s x)) in subst F (sym q) h
 
--- the code of a built-in function of two parts, where it stands for a node of this shape
+-- the code of a built-in function of two parts, where it means a node of this shape
 pub applied : (names : List Name) (ls : List Layer) (r : Result Code AllocError) (s : Span) (f : Builtin) (a b : Tree) (k : Shape) (d : declared.Node) →
     ((l m : Box Code Global) → Means names ls l.value a → Means names ls m.value b → Means names ls (code.ApplyTwo s f l m) (node s k)) → shape_of d ≡ k →
     IfOk r (λ c. (l : Box Code Global) × (m : Box Code Global) × (c ≡ code.ApplyTwo s f l m) × Means names ls l.value a × Means names ls m.value b) →

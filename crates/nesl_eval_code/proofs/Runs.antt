@@ -1,4 +1,4 @@
--- The block of code comes to what the code does.
+-- The block of code evaluates to what the code does.
 use Rattle.std.proofs.Common.{◌≡◌, ℕ, suc, ◌+◌, ◌-◌, refl, sym, ◌∙◌, ap, arith, List, [], ◌∷◌, ◌++◌, length, reverse, append_assoc, append-nil, Option, Some, None}
 use Rattle.std.specs.Prelude.{slice_get}
 use Rattle.std.proofs.lemmas.List.{length-map, map-append, length-reverse}
@@ -22,7 +22,7 @@ use Rattle.nesl_eval_code.proofs.Outs.{then_assoc, then_same, then_value, given_
 use Rattle.nesl_eval_code.proofs.LocalPlaces.{laid_alone, local_is}
 use Rattle.nesl_eval_code.proofs.Parts.{run_with, run_with_is, run_entered, then_node, PartIs, AllAre, making_is, pushing_is, taken_all}
 
--- nothing else is on the stack where nothing comes after
+-- the stack is empty where nothing comes after
 abbrev pub Open : Option Block → List Value → Type 0
 Open None [] = Unit {0}
 Open None (v ∷ vs) = ⊥

@@ -1,4 +1,4 @@
--- What stands at the places of a table, and what names mean.
+-- What is at the places of a table, and what names mean.
 use Rattle.std.proofs.Common.{◌≡◌, ℕ, suc, refl, ◌∙◌, ap, subst, arith, List, [], ◌∷◌, ◌++◌, Option, Some, None, Bool, true, false}
 use Rattle.std.specs.Prelude.{option_map, if◌then◌else◌}
 use Rattle.std.specs.Str.{bytes_eq}
@@ -40,7 +40,7 @@ fewer_all n t env [] (b ∷ bs) h = absurd h
 fewer_all n t env (s ∷ ss) [] h = absurd h
 fewer_all n t env (s ∷ ss) (b ∷ bs) h = (h.0, fewer_for n t env s.1 b.1 h.1, fewer_all n t env ss bs h.2)
 
--- a table for so many levels is one for a level less
+-- a table for a number of levels is one for a level less
 pub fewer : (n : ℕ) (env : Environment) (t : Table) → IsTableOf (suc n) env t → IsTableOf n env t
 fewer n env t h = fewer_all n t env t env h
 
@@ -66,7 +66,7 @@ module _ (n : ℕ) (t : Table) (env : Environment) (s : Name × Slot) (b : Name 
         let F : ℕ → Type 0 = λ m. Stands n t env (slot_at (s ∷ ss) m) (Some b.1) in subst F e here
     by_place false k h = next_place (place_of (names_of ss) x) refl k h
 
--- what is found under a name is what the name means
+-- a name is found with what it means
 pub found_named : (n : ℕ) (t : Table) (env : Environment) (ss : Table) (bs : Environment) (x : Name) →
     AllStand n t env ss bs → Stands n t env (look_up ss x) (look_up bs x)
 found_named n t env [] [] x h = tt
@@ -76,7 +76,7 @@ found_named n t env (s ∷ ss) (b ∷ bs) x h =
     let F : Name → Type 0 = λ y. Stands n t env (if bytes_eq x s.0 then Some s.1 else look_up ss x) (if bytes_eq x y then Some b.1 else look_up bs x) in
     subst F h.0 (by_name n t env s b ss bs x h.1 (bytes_eq x s.0) (found_named n t env ss bs x h.2))
 
--- and what stands at a name's place
+-- and so it is at a name's place
 pub found_placed : (n : ℕ) (t : Table) (env : Environment) (ss : Table) (bs : Environment) (x : Name) (k : ℕ) →
     AllStand n t env ss bs → place_of (names_of ss) x ≡ Some k → Stands n t env (slot_at ss k) (look_up bs x)
 found_placed n t env [] [] x k h p = absurd cc
@@ -86,7 +86,7 @@ found_placed n t env (s ∷ ss) (b ∷ bs) x k h p =
     let F : Name → Type 0 = λ y. Stands n t env (slot_at (s ∷ ss) k) (if bytes_eq x y then Some b.1 else look_up bs x) in
     subst F h.0 (by_place n t env s b ss bs x h.1 (λ j e. found_placed n t env ss bs x j h.2 e) (bytes_eq x s.0) k p)
 
--- a variable, and a call, where they stand for one another
+-- a variable, and a call, where the one means the other
 pub same_variable : (n : ℕ) (t : Table) (env : Environment) (o : Option Slot) (b : Option Top) → Stands n t env o b →
     run_top o ≡ variable_in None b
 same_variable n t env None None h = refl

@@ -1,4 +1,4 @@
--- Code in the order of evaluation. Values stand on a stack, the last one first; the values of local names stand one
+-- Code in the order of evaluation. Values are on a stack, the last one first; the values of local names lie one
 -- after the other, those of the newest frame last.
 use Rattle.std.specs.Prelude.{ℕ, ℤ, Bool, List}
 use Rattle.nesl_lex.specs.declared.token.Span.{Span}
@@ -45,18 +45,18 @@ pub data Block : Type 0 where
   push : ℕ → Leaf → Block → Block
   -- a node is entered
   enter : ℕ → Span → Block → Block
-  -- a node's value is made of so many values of the stack and of these leaves at this height
+  -- a node's value at this height is made of some values of the stack, by their number, and of these leaves
   make : ℕ → Span → Maker → ℕ → List Leaf → Block → Block
   -- the one or the other, and then the rest
   choose : Block → Block → Block → Block
-  -- the one or the other, where nothing else is left to do
+  -- the one or the other, after which nothing is left to do
   last : Block → Block → Block
   -- a call, whose parts and body have a level less than the node at this height
   call : ℕ → Span → Callee → Block → Block
   -- the value is that of one more local name
   bind : Block → Block
-  -- only the first so many local names are left
+  -- only the first local names are left, as many as the number says
   forget : ℕ → Block → Block
-  -- a body at all places of so many sequences, or at those where a filter holds
+  -- a body at all places of some sequences, by their number, or at those where a filter holds
   each : Span → ℕ → Block → Block → Block
   filtered : Span → ℕ → Block → Block → Block → Block

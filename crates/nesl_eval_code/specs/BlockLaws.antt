@@ -13,11 +13,11 @@ use Rattle.nesl_eval_code.specs.Flat.{flat, block}
 abbrev pub sizes : Frames → List ℕ
 sizes fs = map length fs
 
--- the block of code comes to what the code does
+-- the block of code evaluates to what the code does
 abbrev pub RunsAsCode : Type 0
 RunsAsCode = (t : Table) (n : ℕ) (fs : Frames) (c : Code) → exec t n (laid fs) (block (sizes fs) c) [] ≡ run n t fs c
 
--- and before another block, at any height, it leaves what the code comes to on the stack
+-- and before another block, at any height, it leaves on the stack what the code evaluates to
 abbrev pub LeavesItsValue : Type 0
 LeavesItsValue =
     (t : Table) (n h : ℕ) (fs : Frames) (c : Code) (b : Block) (vs : List Value) →

@@ -1,4 +1,4 @@
--- What blocks come to.
+-- What blocks evaluate to.
 use Rattle.std.specs.Prelude.{ℕ, zero, suc, ◌-◌, nat_lt, List, [], ◌∷◌, ◌++◌, map, length, take}
 use Rattle.std.specs.Prelude.{slice_get, Option, Some, None, option_and_then, if◌then◌else◌}
 use Rattle.nesl_lex.specs.declared.token.Span.{Span}
@@ -17,7 +17,7 @@ use Rattle.nesl_eval_code.specs.Block.{Maker, of_one, of_two, of_three, of_pair,
 use Rattle.nesl_eval_code.specs.Block.{called_by, Block, finish, push, enter, make, choose, last, call, bind, forget}
 use Rattle.nesl_eval_code.specs.Block.{each, filtered}
 
--- the values of the local names; one may be wanting where an expression has no type
+-- the values of the local names; one may be missing where an expression has no type
 abbrev pub Places : Type 0
 Places = List (Option Value)
 
@@ -30,11 +30,11 @@ laid (f ∷ fs) = laid fs ++ f
 abbrev pub value_at : Places → ℕ → Option Value
 value_at env k = option_and_then (λ o. o) (slice_get env k)
 
--- a node is entered at this height of a body with so many levels, and costs its own 1
+-- a node is entered at this height of a body with `n` levels, and costs its own 1
 abbrev pub admitted : ℕ → ℕ → Span → Out (Unit {0})
 admitted n h s = if nat_lt h n then value tt 1 1 else fault Deep s 0
 
--- what a leaf comes to besides its own 1
+-- what a leaf evaluates to, besides its own 1
 abbrev pub leaf_value : Table → Places → What → Out Value
 leaf_value t env (number z) = value (values.int z) 0 0
 leaf_value t env (truth b) = value (values.boolean b) 0 0
@@ -64,14 +64,14 @@ made_of s pairing (x ∷ y ∷ []) = small_enough s (values.pair x y)
 made_of s listing vs = small_enough s (values.sequence vs)
 made_of s _ _ = stuck
 
--- so many values off a stack, in the order in which they came, before those that were taken already; and the stack
--- that is left
+-- this number of values off a stack, in the order in which they came, before those that were taken already; and the
+-- stack that is left
 abbrev pub taken : ℕ → List Value → List Value → Option (List Value × List Value)
 taken zero vs us = Some (us, vs)
 taken (suc k) [] us = None
 taken (suc k) (v ∷ vs) us = taken k vs (v ∷ us)
 
--- what stands there
+-- what is there
 abbrev pub slot_of : Table → Callee → Option Slot
 slot_of t (placed k) = slot_at t k
 slot_of t (called_by x) = look_up t x
@@ -87,7 +87,7 @@ kept_of f = all_beside (λ i. and_then (f i) (place_if_true i))
 abbrev pub values_of : (ℕ → Out Value) → List ℕ → Out Value
 values_of f is = as_result (all_beside (λ i. and_then (f i) body_value) is)
 
--- what a block comes to in a body with so many levels, with these values of local names and this stack: the one value
+-- what a block evaluates to in a body with `n` levels, with these values of local names and this stack: the one value
 -- that is left
 abbrev pub exec : Table → ℕ → Places → Block → List Value → Out Value
 exec t n env finish [] = stuck

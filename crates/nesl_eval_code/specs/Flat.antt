@@ -20,7 +20,7 @@ abbrev pub room : List ℕ → ℕ
 room [] = 0
 room (k ∷ ks) = room ks + k
 
--- the place of the value so many frames up, at that index of the frame
+-- the place of the value `up` frames up, at that index of the frame
 abbrev pub place_of : List ℕ → ℕ → ℕ → Option ℕ
 place_of [] up i = None
 place_of (k ∷ ks) zero i = if nat_lt i k then Some (room ks + i) else None
@@ -66,8 +66,8 @@ abbrev pub if_leaves : Option (List Leaf) → (List Leaf → Block) → Block �
 if_leaves (Some ls) f b = f ls
 if_leaves None f b = b
 
--- parts up to the last one that is no leaf are pushed, and the leaves behind it stand in the operation; so many have
--- been pushed
+-- parts up to the last one that is no leaf are pushed, and the leaves after it are in the operation; `k` have been
+-- pushed
 abbrev pub making : ℕ → Span → Maker → ℕ → List Part → Block → Block
 making h s m k [] b = make h s m k [] b
 making h s m k (p ∷ ps) b =
@@ -146,7 +146,7 @@ abbrev mutual
   parts_in h ks end_of-Code = []
   parts_in h ks (more_of-Code c cs) = part (leaf_of ks c) (λ b. flat h ks c (Some b)) ∷ parts_in h ks cs
 
-  -- bindings, each of which sees the so many before it, and then a block that sees them all
+  -- bindings, each of which sees those before it, of which there are k, and then a block that sees them all
   pub binding : {m : _} → ℕ → List ℕ → ℕ → Row_of-Code m → (ℕ → Block) → Block
   binding h ks k end_of-Code f = f k
   binding h ks k (more_of-Code c cs) f = flat h (k ∷ ks) c (Some (bind (binding h ks (suc k) cs f)))

@@ -16,7 +16,7 @@ followed (Left ∷ steps) v = option_and_then (λ p. followed steps p.0) (as_pai
 followed (Right ∷ steps) v = option_and_then (λ p. followed steps p.1) (as_pair v)
 followed (Inside ∷ steps) v = option_and_then (λ p. followed steps p.1) (as_tagged v)
 
--- the value so many frames up, at that index of the frame
+-- the value `up` frames up, at that index of the frame
 abbrev pub place_in : Frames → ℕ → ℕ → Option Value
 place_in fs up i = option_and_then (λ o. o) (option_and_then (λ vs. slice_get vs i) (slice_get fs up))
 

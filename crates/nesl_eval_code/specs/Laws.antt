@@ -1,4 +1,4 @@
--- The law of what code comes to that stands for an expression.
+-- The law of what code evaluates to that means an expression.
 use Rattle.std.specs.Prelude.{◌≡◌, ℕ, []}
 use Rattle.nesl_syntax_tree.specs.Trees.{Tree}
 use Rattle.nesl_eval_code.specs.declared.code.Code.{Code}
@@ -8,7 +8,7 @@ use Rattle.nesl_eval_meaning.specs.Outcome.{out}
 use Rattle.nesl_eval_code.specs.Run.{Table, run}
 use Rattle.nesl_eval_code.specs.Means.{Means, IsTableOf, names_of}
 
--- at the table of an environment, code that means a tree comes to what the tree does
+-- at the table of an environment, code that means a tree evaluates to what the tree does
 abbrev pub RunsAsMeant : Type 0
 RunsAsMeant =
     (n : ℕ) (t : Table) (env : Environment) (c : Code) (e : Tree) → IsTableOf n env t → Means (names_of t) [] c e →

@@ -1,4 +1,4 @@
--- When code stands for a tree.
+-- When code means a tree.
 use Rattle.std.specs.Prelude.{◌≡◌, ◌<◌, ℕ, List, [], ◌∷◌, ◌++◌, map, Bool, true, false, ◌||◌, Option, Some, None, suc}
 use Rattle.std.specs.Prelude.{option_map, option_and_then, slice_get, if◌then◌else◌}
 use Rattle.std.specs.Str.{bytes_eq}
@@ -15,11 +15,11 @@ use Rattle.nesl_eval_meaning.specs.Outcome.{out, in_bound}
 use Rattle.nesl_eval_code.specs.Frames.{Frames, frame, local_at}
 use Rattle.nesl_eval_code.specs.Run.{Table, Slot, variable_slot, function_slot, datatype_slot, nothing_slot, run}
 
--- the code comes to what the tree does, where that isn't stuck
+-- the code evaluates to what the tree does, where that isn't stuck
 abbrev pub Agrees : {X : Type 0} → Out X → Out X → Type 0
 Agrees r o = (o ≡ stuck → ⊥) → r ≡ o
 
--- the patterns whose names stand in a frame: a parameter or the bindings of a `let`, or the binders of an
+-- the patterns whose names are in a frame: a parameter or the bindings of a `let`, or the binders of an
 -- apply-to-each, whose first value is the element that has no name
 pub data Layer : Type 0 where
   bindings : List PatternTree → Layer
@@ -48,7 +48,7 @@ FramesShow (l ∷ ls) [] sc = ⊥
 FramesShow (l ∷ ls) (f ∷ fs) sc =
     (vs : List Value) × (outer : Scope) × (f ≡ frame vs) × FramesShow ls fs outer × (layered l vs outer ≡ Some sc)
 
--- what stands at a place of the table is what the name means; a function's code agrees with its body on fewer than n
+-- what is at a place of the table is what the name means; a function's code agrees with its body on fewer than n
 -- levels
 abbrev pub StandsFor : ℕ → Table → Environment → Slot → Top → Type 0
 StandsFor n t env (variable_slot v) (variable_of w) = v ≡ w
@@ -66,11 +66,11 @@ AllStand n t env [] (b ∷ bs) = ⊥
 AllStand n t env (s ∷ ss) [] = ⊥
 AllStand n t env (s ∷ ss) (b ∷ bs) = (s.0 ≡ b.0) × StandsFor n t env s.1 b.1 × AllStand n t env ss bs
 
--- each place of the table is what its name means
+-- each place of the table has what its name means
 abbrev pub IsTableOf : ℕ → Environment → Table → Type 0
 IsTableOf n env t = AllStand n t env t env
 
--- names without what they stand for
+-- names without what they mean
 abbrev pub names_of : {X : Type 0} → List (Name × X) → List Name
 names_of bs = map (λ b. b.0) bs
 
@@ -83,7 +83,7 @@ place_of (y ∷ ys) x = if bytes_eq x y then Some 0 else option_map suc (place_o
 abbrev pub Begins : List Name → Table → Type 0
 Begins names t = (more : List Name) × (names_of t ≡ names ++ more)
 
--- with any number of levels, at any table that begins with these names, code and tree come to the same
+-- with any number of levels, at any table that begins with these names, code and tree evaluate to the same
 abbrev pub Means : List Name → List Layer → Code → Tree → Type 0
 Means names ls c e =
     (n : ℕ) (t : Table) (env : Environment) → Begins names t → IsTableOf n env t →
@@ -95,7 +95,7 @@ binds x (pattern s (name_pattern y)) = bytes_eq x y
 binds x (pattern s (pair_pattern p q)) = binds x q || binds x p
 binds x (pattern s (record_pattern y p)) = binds x p
 
--- the steps to what the name stands for; a name on the right hides one on the left
+-- the steps to what the name means; a name on the right hides one on the left
 abbrev pub steps_to : Name → PatternTree → List Step
 steps_to x (pattern s (name_pattern y)) = []
 steps_to x (pattern s (pair_pattern p q)) = if binds x q then Right ∷ steps_to x q else Left ∷ steps_to x p
@@ -111,7 +111,7 @@ abbrev pub last_binding : Name → List PatternTree → Option ℕ
 last_binding x [] = None
 last_binding x (p ∷ ps) = or_later (binds x p) (last_binding x ps)
 
--- where the value of a local name is: so many frames up, at that index of the frame, and from there by these steps
+-- where the value of a local name is: how many frames up, at that index of the frame, and from there by these steps
 pub record Spot : Type 0 where
   pub up : ℕ
   pub index : ℕ
@@ -140,14 +140,14 @@ abbrev pub IsElementSpot : List Layer → Spot → Type 0
 IsElementSpot ls p =
     (fs : Frames) (sc : Scope) → FramesShow ls fs sc → local_at fs p.up p.index p.steps ≡ sc.element
 
--- codes that stand for trees, one by one
+-- codes that mean trees, one by one
 abbrev pub AllMean : List Name → List Layer → List Code → Trees → Type 0
 AllMean names ls [] none = Unit {0}
 AllMean names ls [] (more e es) = ⊥
 AllMean names ls (c ∷ cs) none = ⊥
 AllMean names ls (c ∷ cs) (more e es) = Means names ls c e × AllMean names ls cs es
 
--- codes that stand for the bindings of a `let`, each in the frame of the bindings before it
+-- codes that mean the bindings of a `let`, each in the frame of the bindings before it
 abbrev pub BindingsMean : List Name → List Layer → List PatternTree → List Code → Binders → Type 0
 BindingsMean names ls ps [] no_binders = Unit {0}
 BindingsMean names ls ps [] (binder p a bs) = ⊥

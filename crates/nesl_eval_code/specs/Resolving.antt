@@ -12,7 +12,7 @@ use Rattle.nesl_eval_code.specs.Frame.{patterns_before}
 use Rattle.nesl_eval_code.specs.Means.{Layer, bindings, binders, spot, IsSpotOf}
 use Rattle.nesl_eval_code.specs.Means.{IsNoLocal}
 
--- the layers that a value of the program stands for
+-- the layers that a value of the program means
 abbrev pub layers_step : Layers-F (List Layer) → List Layer
 layers_step Layers-F.Top = []
 layers_step (Layers-F.Parameter p) = bindings (pattern_tree p.now.pattern.now ∷ []) ∷ []

@@ -1,4 +1,4 @@
--- What code comes to with so many levels. It is what the tree that it was made of comes to.
+-- What code evaluates to with a number of levels: the same as the tree that it was made of.
 use Rattle.std.specs.Prelude.{ℕ, zero, suc, List, [], ◌∷◌, ◌++◌, map, length, slice_get, Option, Some, option_map}
 use Rattle.nesl_lex.specs.declared.token.Span.{Span}
 use Rattle.nesl_values.specs.Tree as values
@@ -15,7 +15,7 @@ use Rattle.nesl_eval_meaning.specs.Out.{Out, value, fault, stuck, after_cost, an
 use Rattle.nesl_eval_meaning.specs.Outcome.{small_enough, apply_builtin, branch, common_places, lengths, place_if_true}
 use Rattle.nesl_eval_meaning.specs.Outcome.{body_value}
 
--- what stands at a place of the top level: a variable's value, the code of a function's body, a datatype's tag, or
+-- what is at a place of the top level: a variable's value, the code of a function's body, a datatype's tag, or
 -- nothing
 pub data Slot : Type 0 where
   variable_slot : Value → Slot
@@ -23,19 +23,19 @@ pub data Slot : Type 0 where
   datatype_slot : ℕ → Slot
   nothing_slot : Slot
 
--- the top-level names and what stands there, in order of first definition
+-- the top-level names and what each is, in order of first definition
 abbrev pub Table : Type 0
 Table = List (Name × Slot)
 
--- what stands at a place, and under a name
+-- what is at a place, and what a name means
 abbrev pub slot_at : Table → ℕ → Option Slot
 slot_at t k = option_map (λ b. b.1) (slice_get t k)
 
--- what codes come to, with values in these frames
+-- what codes evaluate to, with values in these frames
 abbrev pub Runs : Type 0
 Runs = Frames → Code → Out Value
 
--- where the expression stands that the code was made of
+-- the span of the expression that the code was made of
 abbrev pub code_span : Code → Span
 code_span (Number s n) = s
 code_span (Truth s b) = s
@@ -68,12 +68,12 @@ run_called f s (Some (function_slot c)) v = at_call s (f (frame (v ∷ []) ∷ [
 run_called f s (Some (datatype_slot k)) v = small_enough s (values.tagged k v)
 run_called f s _ v = stuck
 
--- these parts, after those that came to `vs`
+-- these parts, after those that evaluated to `vs`
 abbrev pub run_all : Runs → Frames → List Value → List Code → Out (List Value)
 run_all f fs vs [] = value vs 0 0
 run_all f fs vs (c ∷ cs) = and_then (f fs c) (λ v. run_all f fs (vs ++ v ∷ []) cs)
 
--- a body in the frame of the bindings that came to `vs` and of those that are left
+-- a body in the frame of the bindings that evaluated to `vs` and of those that are left
 abbrev pub run_let : Runs → Frames → List Value → List Code → Code → Out Value
 run_let f fs vs [] e = f (frame vs ∷ fs) e
 run_let f fs vs (c ∷ cs) e = and_then (f (frame vs ∷ fs) c) (λ v. run_let f fs (vs ++ v ∷ []) cs e)

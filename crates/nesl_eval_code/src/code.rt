@@ -16,7 +16,7 @@ pub enum Step {
 
 /// An expression whose names have been resolved, each node with its span.
 ///
-/// Local names stand in frames. The body of a called function has one frame with one value, its argument; a `let` has
+/// Local names are in frames. The body of a called function has one frame with one value, its argument; a `let` has
 /// a frame with the values of its bindings so far; an apply-to-each has one with the elements of its sequences at a
 /// place.
 #[derive(Drop)]
@@ -37,7 +37,7 @@ pub enum Code {
         span: Span,
         bytes: Vec<u8>,
     },
-    /// A local name: so many frames up, at that index of the frame, and from there by these steps.
+    /// A local name: how many frames up, at that index of the frame, and from there by these steps.
     Local {
         span: Span,
         up: usize,

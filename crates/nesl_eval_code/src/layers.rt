@@ -9,7 +9,7 @@ use crate::frames::{Frame, Parameter};
 use crate::names::NamePlace;
 use std::alloc::{AllocError, Global};
 
-/// The patterns whose names stand in the frames round an expression, those of the newest frame first.
+/// The patterns whose names are in the frames round an expression, those of the newest frame first.
 #[derive(Clone, Copy)]
 pub(crate) enum Layers<'a> {
     /// No frame.
@@ -22,7 +22,7 @@ pub(crate) enum Layers<'a> {
     Row(&'a Frame<'a>, &'a Layers<'a>),
 }
 
-/// So many frames up, at that index of the frame, and from there by these steps.
+/// How many frames up, at that index of the frame, and from there by these steps.
 #[derive(Drop)]
 pub(crate) struct LocalPlace {
     pub up: usize,

@@ -8,7 +8,7 @@ ghost use Rattle.nesl_eval_code.specs.Resolving.{keys_of, with_own, known};
 use crate::code::Code;
 use indexmap::IndexMap;
 
-/// The top-level names. A function whose body is prepared before it stands there has its place already, the last.
+/// The top-level names. A function whose body is prepared before it is there has its place already, the last.
 #[derive(Clone, Copy)]
 pub struct Places<'a> {
     /// The names in order, each with the code of its body, if it is a function.
@@ -36,7 +36,7 @@ pub(crate) fn place_of(places: &Places<'_>, name: &[u8]) -> Option<usize>
     }
 }
 
-/// The place after so many others, if it is the name's.
+/// The place after `others` others, if it is the name's.
 fn last_place(own: &[u8], name: &[u8], others: usize) -> Option<usize>
     ensures { result ≡ (if bytes_eq name.now own.now then Some others else None) }
 {

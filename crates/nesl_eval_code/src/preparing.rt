@@ -28,7 +28,7 @@ struct Preparing<'a> {
     layers: &'a Layers<'a>,
 }
 
-/// The code of an expression whose local names stand in these frames. It recurs as deep as the expression is high.
+/// The code of an expression whose local names are in these frames. It recurs as deep as the expression is high.
 #[cycle(prepare)]
 #[inline(always)]
 fn code_of(at: &Preparing<'_>, exp: &Exp) -> Result<Code, AllocError>
@@ -142,7 +142,6 @@ fn code_of_prefix(
     })
 }
 
-/// The code of a pair.
 #[cycle(prepare)]
 #[inline(never)]
 fn code_of_pair(at: &Preparing<'_>, span: Span, left: &Exp, right: &Exp) -> Result<Code, AllocError>
@@ -203,7 +202,6 @@ fn code_of_strided(
     })
 }
 
-/// The code of a choice.
 #[cycle(prepare)]
 #[inline(never)]
 fn code_of_choice(
@@ -430,7 +428,7 @@ pub fn code_of_body(
     code_of(&at, body)
 }
 
-/// A number that a tree holds; one beyond the greatest stands for it.
+/// A number that a tree holds; one beyond the greatest is taken as the greatest.
 fn number(value: u64) -> i64
     ensures { result ≡ pos (min value greatest_number) }
 {
@@ -441,7 +439,6 @@ fn number(value: u64) -> i64
     }
 }
 
-/// The code of a text.
 #[inline(never)]
 fn code_of_text(at: &Preparing<'_>, span: Span, bytes: &[u8]) -> Result<Code, AllocError>
     ensures { IfOk result (λ c. Means (known at.now.places.now) (layers_of at.now.layers.now) c

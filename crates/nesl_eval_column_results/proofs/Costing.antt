@@ -9,7 +9,7 @@ use Rattle.std.proofs.lemmas.List.{length-replicate}
 use Rattle.nesl_eval_column_results.proofs.Framed.{mapped_some}
 use Rattle.nesl_eval_column_results.proofs.Each.{three_at}
 
--- numbers, of which one stands before the others
+-- numbers, of which one is before the others
 pub sum_next : (n : ℕ) (ns : List ℕ) → sum (n ∷ ns) ≡ n + sum ns
 sum_next n ns = sum_by-cons (λ x. x) n ns
 
@@ -65,7 +65,7 @@ costs_merged bs is v ps qs h = λ k b i p q.
     let z = three_at (λ b i z. cond b (ps i) (qs i) ≡ Some z) bs is v.items k b i h p q in
     ap (option_map (λ j. 0 + j)) z.1 ∙ ap Some (omega arith) ∙ sym z.2
 
--- the same cost at so many turns
+-- the same cost at `k` turns
 sum_same : (n k : ℕ) → sum (replicate k n) ≡ n * k
 sum_same n zero = omega arith
 sum_same n (suc k) = sum_next n (replicate k n) ∙ omega (arith, sum_same n k)
@@ -82,7 +82,7 @@ paid_same {A} n k work a is h e = by a is
     by None q = (length-replicate k n, e ∙ sym (sum_same n k), sym (greatest_same n k h))
     by (Some v) q = absurd cc
 
--- costs that stand in a list
+-- costs that are in a list
 len_map : {X Y : Type 0} (f : X → Y) (xs : List X) → length (map f xs) ≡ length xs
 len_map f [] = refl
 len_map f (x ∷ xs) = ap suc (len_map f xs)

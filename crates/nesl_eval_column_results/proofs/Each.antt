@@ -1,4 +1,4 @@
--- What stands at the same place of lists that are related.
+-- What is at the same place of lists that are related.
 use Rattle.std.proofs.Common.{◌≡◌, ℕ, zero, suc, List, [], ◌∷◌, refl, subst, Some}
 use Rattle.std.specs.Prelude.{slice_get}
 use Rattle.nesl_eval_columns.specs.Each.{EachTwo, EachThree}
@@ -10,7 +10,7 @@ each_so P Q law [] [] h = tt
 each_so P Q law (x ∷ xs) (y ∷ ys) h = (law x y h.0, each_so P Q law xs ys h.1)
 each_so P Q law _ _ h = absurd h
 
--- what stands at a turn of lists that are related
+-- what is at a turn of lists that are related
 pub each_at : {X Y : Type 0} (P : X → Y → Type 0) (xs : List X) (ys : List Y) (k : ℕ) (x : X) → EachTwo P xs ys → slice_get xs k ≡ Some x → (y : Y) × (slice_get ys k ≡ Some y) × P x y
 each_at P [] ys k x h e = absurd (none-some x e)
 each_at P (a ∷ xs) [] k x h e = absurd h

@@ -14,7 +14,7 @@ use Rattle.nesl_eval_meaning.specs.Outcome.{apply_builtin, on_sequence}
 use Rattle.nesl_eval_columns.specs.Each.{EachTwo}
 use Rattle.nesl_eval_column_results.specs.Picked.{at_number, Picks, IsLength}
 
--- what stands for a sequence of so many elements
+-- what is a sequence of `n` elements
 pub is_sequence : (v : Value) (ts : List Value) (n : ℕ) → Some n ≡ option_map length (as_sequence v) → ts ≡ elements v → as_sequence v ≡ Some ts
 is_sequence v ts n h e = by (as_sequence v) refl
   where

@@ -44,7 +44,7 @@ length_applies s n xs v y c same is its = λ k x l q.
     let own : v ≡ x = same_Some v x (sym (same k) ∙ q) in
     (y, its k, ap (apply_builtin s (OfSequences Length)) (sym own) ∙ length_is s v y is)
 
--- what stands at the place of a function
+-- what is at the place of a function
 pub function_there : (o : Option Slot) (c : Code) → function_slot c ≡ unwrap_or o nothing_slot → o ≡ Some (function_slot c)
 function_there (Some s) c e = ap Some (sym e)
 function_there None c e = absurd cc

@@ -29,7 +29,7 @@ breadth_of (Same v) = 1
 breadth_of (Leaves c) = 1
 breadth_of (Pair' p one q other) = breadth_of one + breadth_of other
 
--- the second are the first at so many turns
+-- the second are the first at the first `n` turns
 abbrev pub SameUpTo : ℕ → (ℕ → Option Value) → (ℕ → Option Value) → Type 0
 SameUpTo n xs ys = (k : ℕ) → k < n → ys k ≡ xs k
 
@@ -43,7 +43,7 @@ abbrev pub Leads : List Step → (ℕ → Option Value) → (ℕ → Option Valu
 Leads steps xs ys =
     (k : ℕ) (v : Value) → xs k ≡ Some v → (w : Value) × (followed steps v ≡ Some w) × (ys k ≡ Some w)
 
--- at so many turns the function has the second for the first, where these are, without further cost
+-- at the first `n` turns the function has the second for the first, where these are, without further cost
 abbrev pub Applies : {A : Type 0} → Builtin → Span → ℕ → (ℕ → Option Value) → Columns A → Type 0
 Applies g s n xs c =
     (k : ℕ) (x : Value) → k < n → xs k ≡ Some x

@@ -33,7 +33,7 @@ frames_in {A} b = fold-Scopes A (ℕ → Option Frames) (scopes_step b)
 abbrev pub IsAt : (ℕ → Option Value) → (ℕ → Option ℕ) → ℕ → Out Value → Type 0
 IsAt vs ns k o = (v : Value) × (n : ℕ) × (vs k ≡ Some v) × (ns k ≡ Some n) × (o ≡ value v n n)
 
--- so it is at each turn
+-- the same at each turn
 abbrev pub AreAt : (Frames → Out Value) → (ℕ → Option Frames) → (ℕ → Option Value) → (ℕ → Option ℕ) → Type 0
 AreAt p at vs ns = (k : ℕ) (fs : Frames) → at k ≡ Some fs → IsAt vs ns k (p fs)
 
@@ -49,12 +49,12 @@ cost_at r = costs_at r.costs
 abbrev pub NeedsNothing : {A : Type 0} → (Frames → Out Value) → (ℕ → Option Frames) → Columns A → Type 0
 NeedsNothing p at c = AreAt p at (value_at c) (λ k. Some 0)
 
--- the values are what the steps lead to from a binding, which has values at so many turns
+-- the values are what the steps lead to from a binding, which has values at the turns below `least`
 abbrev pub StandsFor : {A : Type 0} → Columns A → ℕ → List Step → (ℕ → Option Value) → Type 0
 StandsFor c least steps ys =
     ((k : ℕ) → k < least → (v : Value) × (value_at c k ≡ Some v)) × Leads steps (value_at c) ys
 
--- so they are from the binding at that place
+-- the same from the binding at that place
 abbrev pub StandsAt : {A : Type 0} → List (Columns A) → ℕ → ℕ → List Step → (ℕ → Option Value) → Type 0
 StandsAt cs index least steps ys = IsSomeAnd (slice_get cs index) (λ c. StandsFor c least steps ys)
 

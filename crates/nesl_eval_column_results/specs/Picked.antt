@@ -7,7 +7,7 @@ use Rattle.nesl_seqs_base.specs.Outcome.{gives}
 use Rattle.nesl_seqs_base.specs.Meaning.{outcome_of}
 use Rattle.nesl_eval_meaning.specs.Names.{Value}
 
--- the item before which there are so many
+-- the item at a number, counted from 0
 abbrev pub at_number : {X : Type 0} → List X → ℤ → Option X
 at_number xs (pos n) = slice_get xs n
 at_number xs (negsuc n) = None

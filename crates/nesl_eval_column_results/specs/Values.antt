@@ -17,7 +17,7 @@ abbrev pub pairs_of : List Value → List Value → List Value
 pairs_of (x ∷ xs) (y ∷ ys) = pair x y ∷ pairs_of xs ys
 pairs_of _ _ = []
 
--- each has so many nodes
+-- each has `n` nodes
 abbrev pub AreOfSize : ℕ → List Value → Type 0
 AreOfSize n [] = Unit {0}
 AreOfSize n (v ∷ vs) = (size v ≡ n) × AreOfSize n vs

@@ -1,4 +1,4 @@
-//! What code comes to at all turns of a block.
+//! What code evaluates to at all turns of a block.
 ghost use Rattle.std.specs.Prelude.{◌≡◌, ◌-◌, ◌<◌, ◌^◌, ℕ, min, Some, IfSome, IsTrue, slice_get};
 ghost use Rattle.nesl_values.specs.Tree.{ValueTree, size};
 ghost use Rattle.nesl_values.specs.View.{tree_of};
@@ -48,7 +48,7 @@ pub fn breadth<A: Allocator>(columns: &Columns<A>) -> usize
     }
 }
 
-/// Whether there are values at so many turns.
+/// Whether there are values at `count` turns.
 pub(crate) fn reaches<A: Allocator>(columns: &Columns<A>, count: usize) -> bool
     ensures { IsTrue result → (k : ℕ) → k < count → (v : ValueTree) × (value_at columns.now k ≡ Some v) }
 {
@@ -176,7 +176,7 @@ pub fn same_value<A: Allocator>(columns: Columns<A>) -> Option<Value<A>>
     }
 }
 
-/// The leaves at so many turns.
+/// The leaves at `count` turns.
 pub fn as_leaves<A: Allocator + Copy>(
     columns: Columns<A>,
     count: usize,
@@ -191,7 +191,7 @@ pub fn as_leaves<A: Allocator + Copy>(
     }
 }
 
-/// The two leaves of the pairs at so many turns.
+/// The two leaves of the pairs at `count` turns.
 pub(crate) fn as_two_leaves<A: Allocator + Copy>(
     columns: Columns<A>,
     count: usize,

@@ -8,7 +8,7 @@ use nesl_eval_columns::Column;
 use nesl_values::Value;
 use std::alloc::Allocator;
 
-// An item so many times.
+// An item `count` times.
 fn repeated<X: Copy, A: Allocator>(item: X, count: usize, alloc: A) -> Option<Vec<X, A>>
     ensures { IfSome result (λ v. v.items ≡ replicate count item) }
 {
@@ -40,7 +40,7 @@ fn chars<A: Allocator>(c: u8, count: usize, alloc: A) -> Option<Column<A>>
     Some(Column::Chars(repeated(c, count, alloc)?))
 }
 
-/// The column of a value at so many turns, if it is a leaf.
+/// The column of a value at `count` turns, if it is a leaf.
 pub fn column_of<A: Allocator, B: Allocator>(
     value: &Value<A>,
     count: usize,

@@ -134,7 +134,7 @@ fn paid_each(same: u64, more: &[u64]) -> Option<Paid>
     Some(Paid { work, depth })
 }
 
-/// What so many turns cost side by side: their works add, and the greatest depth counts.
+/// What `count` turns cost side by side: their works add, and the greatest depth counts.
 pub fn total_of<A: Allocator>(costs: Costs<A>, count: usize) -> Option<Paid>
     requires { 0 < count }
     ensures { let ns = each_cost costs count in

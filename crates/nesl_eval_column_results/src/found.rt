@@ -1,4 +1,4 @@
-// What plain code comes to.
+// What plain code evaluates to.
 ghost use Rattle.std.specs.Prelude.{◌≡◌, [], ◌∷◌, ◌++◌, IfSome, Some};
 ghost use Rattle.nesl_eval_column_results.specs.Costs.{costs_at, Sums};
 

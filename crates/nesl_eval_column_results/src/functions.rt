@@ -11,7 +11,7 @@ use nesl_scalars::{Binary, Unary};
 use nesl_seqs_base::seq_fn::SeqFn;
 use std::alloc::Allocator;
 
-/// A function at so many turns, if it has a value without further cost at each.
+/// A function at `count` turns, if it has a value without further cost at each.
 pub fn applied<A: Allocator + Copy>(
     function: Builtin,
     values: Columns<A>,
@@ -27,7 +27,7 @@ pub fn applied<A: Allocator + Copy>(
     }
 }
 
-// A function of one scalar, at so many turns.
+// A function of one scalar, at `count` turns.
 fn of_leaf<A: Allocator + Copy>(
     function: Unary,
     values: Columns<A>,
@@ -40,7 +40,7 @@ fn of_leaf<A: Allocator + Copy>(
     Some(Columns::Leaves(of_one(function, &column, alloc)?))
 }
 
-// A function of two scalars, at so many turns.
+// A function of two scalars, at `count` turns.
 fn of_pair<A: Allocator + Copy>(
     function: Binary,
     values: Columns<A>,

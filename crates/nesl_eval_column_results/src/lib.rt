@@ -1,5 +1,5 @@
-//! What a part of plain code comes to at all turns of a block of places: values in columns, and what they cost. Nothing
-//! here recurs over code.
+//! What a part of plain code evaluates to at all turns of a block of places: values in columns, and what they cost.
+//! Nothing here recurs over code.
 #![tactic(auto)]
 
 pub mod block;

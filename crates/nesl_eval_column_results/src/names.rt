@@ -109,7 +109,7 @@ fn in_rows<'x, A: Allocator + Copy, T>(
     Some(Columns::Same(shared(value)?))
 }
 
-// The parts of a binding to which the steps lead, if it has values at so many turns.
+// The parts of a binding to which the steps lead, if it has values at the first `least` turns.
 fn standing<A: Allocator + Copy>(
     binding: &Columns<A>,
     least: usize,
@@ -124,7 +124,7 @@ fn standing<A: Allocator + Copy>(
     parts_of(binding, steps, alloc)
 }
 
-// So from one of some bindings.
+// The same from one of some bindings.
 fn bound<A: Allocator + Copy>(
     bindings: &[Columns<A>],
     index: usize,

@@ -11,7 +11,7 @@ use nesl_eval_columns::{Column, each_of};
 use nesl_values::{Items, Value};
 use std::alloc::Allocator;
 
-// The item before which there are so many, if there is one.
+// The item with `before` items before it, if there is one.
 #[inline(always)]
 fn item_at<X: Copy>(items: &[X], before: i64, some: X) -> (X, bool)
     ensures { IsTrue result.1 → at_number items.now before ≡ Some result.0 }

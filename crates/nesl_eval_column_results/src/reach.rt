@@ -7,8 +7,8 @@ pub const HEIGHT: u32 = 128;
 /// How many columns may wait at the same time, while others are made.
 const COLUMNS: usize = 1024;
 
-/// How far the recursion over code may go: so many levels, as the evaluator counts them, so many nodes deep, and with
-/// so many more columns that wait.
+/// How far the recursion over code may go: how many levels, as the evaluator counts them, how many nodes deep, and
+/// with how many more columns that wait.
 #[derive(Clone, Copy)]
 pub struct Reach {
     pub levels: u32,
@@ -16,7 +16,7 @@ pub struct Reach {
     pub columns: usize,
 }
 
-/// At the root of code that has so many levels.
+/// At the root of code that has `levels` levels.
 #[inline]
 pub fn at_root(levels: u32) -> Reach
     ensures levels { result.levels ≡ levels }
@@ -44,7 +44,7 @@ pub fn below(reach: Reach) -> Option<Reach>
     })
 }
 
-/// Beside so many columns that wait, if there may be so many.
+/// Beside `waiting` columns that wait, if there may be that many.
 #[inline]
 pub fn beside(reach: Reach, waiting: usize) -> Option<Reach>
     ensures { IfSome result (λ r. (r.levels ≡ reach.levels) × (r.height ≡ reach.height)

@@ -1,4 +1,4 @@
-//! What local names stand for at the turns of a block.
+//! What local names mean at the turns of a block.
 ghost use Rattle.std.specs.Prelude.{◌≡◌, ◌<◌, ⊤, ℕ, Some};
 ghost use Rattle.nesl_eval_code.specs.Frames.{Frames};
 ghost use Rattle.nesl_eval_column_results.specs.Blocks.{IsWithin};
@@ -8,7 +8,7 @@ use crate::block::Block;
 use crate::columns::Columns;
 use std::alloc::{AllocError, Allocator};
 
-/// What local names stand for, the newest frame first, at all turns of a block side by side.
+/// What local names mean, the newest frame first, at all turns of a block side by side.
 #[derive_where(Copy)]
 pub enum Scopes<'a, A: Allocator> {
     /// The rows of the apply-to-each at the places of the block.
@@ -17,7 +17,7 @@ pub enum Scopes<'a, A: Allocator> {
     Let(&'a [Columns<A>], &'a Scopes<'a, A>),
     /// The argument of a function that is called, which its body sees alone, at the turns that the call has.
     Call(&'a Columns<A>, &'a Scopes<'a, A>),
-    /// What names stand for at some of the turns alone, in this order.
+    /// What names mean at some of the turns alone, in this order.
     Turns(&'a [usize], &'a Scopes<'a, A>),
 }
 

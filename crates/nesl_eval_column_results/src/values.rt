@@ -161,7 +161,7 @@ pub fn extended<A: Allocator + Copy>(builder: &mut SequenceBuilder<A>, values: V
     }
 }
 
-/// The values at so many turns. One value at all turns has to be a leaf.
+/// The values at `count` turns. One value at all turns has to be a leaf.
 pub fn values_of<A: Allocator + Copy>(
     columns: Columns<A>,
     count: usize,

@@ -14,10 +14,10 @@ leaves_of (Ints v) = map int v.items
 leaves_of (Bools v) = map boolean v.items
 leaves_of (Chars v) = map character v.items
 
--- the third column is what the function has for the first and the second, and it has something at each place
+-- the third column has what the function has for the first and the second, and it has something at each place
 abbrev pub Makes : Binary → List ValueTree → List ValueTree → List ValueTree → Type 0
 Makes f = EachThree (λ x y z. binary f x y ≡ gives z)
 
--- the second column is what the function has for the first, and it has something at each place
+-- the second column has what the function has for the first, and it has something at each place
 abbrev pub MapsColumn : Unary → List ValueTree → List ValueTree → Type 0
 MapsColumn f = EachTwo (λ x z. unary f x ≡ gives z)

@@ -2,7 +2,7 @@
 use Rattle.std.specs.Prelude.{◌≡◌, ℕ, Bool, cond, List, Some, slice_get}
 use Rattle.nesl_eval_columns.specs.declared.sides.Sides.{Sides}
 
--- each place stands in the list of its side, the first where it is true, at its rank
+-- each place is in the list of its side, the first where it is true, at its rank
 abbrev pub Ranks : List Bool → List ℕ → List ℕ → List ℕ → Type 0
 Ranks bs ys ns is =
     (k : ℕ) (b : Bool) → slice_get bs k ≡ Some b

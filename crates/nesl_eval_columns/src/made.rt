@@ -9,7 +9,7 @@ use crate::leaf::Leaf;
 use nesl_scalars::{Binary, Unary};
 use std::alloc::Allocator;
 
-// Writes what `f` has for each two, and tells whether it has something for all of them.
+// Writes what `f` has for each two, and returns whether it has something for all of them.
 #[inline(always)]
 fn filled<X: Copy, Y: Copy, Z: Copy, F: Fn(X, Y) -> (Z, bool)>(
     out: &mut [Z],
@@ -76,7 +76,7 @@ pub fn made<X: Leaf, Z: Leaf, A: Allocator, F: Fn(X, X) -> (Z, bool)>(
     each_of_two(left, right, Z::some(), alloc, f)
 }
 
-// Writes what `f` has for each, and tells whether it has something for all of them.
+// Writes what `f` has for each, and returns whether it has something for all of them.
 #[inline(always)]
 fn turned<X: Copy, Z: Copy, F: Fn(X) -> (Z, bool)>(out: &mut [Z], items: &[X], f: F) -> bool
     requires callable { F.IsAlwaysCallable f }

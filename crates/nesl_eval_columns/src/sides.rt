@@ -16,7 +16,7 @@ pub struct Sides<A: Allocator> {
     pub yes: Vec<usize, A>,
     /// The other places.
     pub no: Vec<usize, A>,
-    /// For each place, how many places stand before it on its side.
+    /// For each place, how many places come before it on its side.
     pub ranks: Vec<usize, A>,
 }
 
@@ -35,8 +35,8 @@ fn either_count(flag: bool, yes: usize, no: usize) -> usize
     if flag { yes } else { no }
 }
 
-// Writes the places of each side one behind the other, and the rank of each place; tells how many are true. Each place
-// is written on both sides, and counts on its own only: there is no branch.
+// Writes the places of each side one after the other, and the rank of each place; returns how many are true. Each
+// place is written on both sides, and counts on its own only: there is no branch.
 fn sort(flags: &[bool], yes: &mut [usize], no: &mut [usize], ranks: &mut [usize]) -> usize
     requires yes { length yes.old ≡ length flags.now }
     requires no { length no.old ≡ length flags.now }

@@ -29,7 +29,7 @@ tests m b h = grind (arith, nat_tests)
 fails : (m b : ℕ) → (nat_le m b ≡ false → b < m)
 fails m b h = grind (arith, nat_tests)
 
--- what is found of two halves under the same budget is what is found of the whole; nothing is said where it is stuck
+-- what is found of two halves under the same budget is found of the whole; the law says nothing where it is stuck
 pub join_law : {X : Type 0} (b : ℕ) (o p : Out (List X)) → (p ≡ stuck → ⊥) → halves_joined (within b o) (within b p) b ≡ within b (beside o p)
 join_law b stuck p n = elim (nat_le 0 b) as (λ x. halves_joined (if x then fits_budget stuck else exceeds_budget) (within b p) b ≡ (if x then fits_budget stuck else exceeds_budget)) [ true ↦ refl | false ↦ refl ]
 join_law b (fault t s w) p n = elim (nat_le w b) as (λ x. halves_joined (if x then fits_budget (fault t s w) else exceeds_budget) (within b p) b ≡ (if x then fits_budget (fault t s w) else exceeds_budget)) [ true ↦ refl | false ↦ refl ]

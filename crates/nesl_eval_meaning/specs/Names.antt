@@ -1,4 +1,4 @@
--- What names stand for.
+-- What names mean.
 use Rattle.std.specs.Prelude.{ℕ, List, [], ◌∷◌, Option, Some, None, if◌then◌else◌, option_and_then}
 use Rattle.std.specs.Str.{bytes_eq}
 use Rattle.nesl_values.specs.Tree as values
@@ -12,7 +12,7 @@ Value = values.ValueTree
 abbrev pub Name : Type 0
 Name = List ℕ
 
--- what the first of these names stands for
+-- what the first of these names means
 abbrev pub look_up : {X : Type 0} → List (Name × X) → Name → Option X
 look_up [] x = None
 look_up (b ∷ bs) x = if bytes_eq x b.0 then Some b.1 else look_up bs x
@@ -46,7 +46,7 @@ abbrev pub Environment : Type 0
 Environment = List (Name × Top)
 
 -- the names with those of a pattern besides, where the value has the pattern's shape; a pattern takes a record of any
--- tag apart, since its type tells the tag
+-- tag apart, since its type has the tag
 abbrev pub bound : PatternTree → Value → Locals → Option Locals
 bound (pattern s (name_pattern x)) v names = Some ((x, v) ∷ names)
 bound (pattern s (pair_pattern p q)) v names =

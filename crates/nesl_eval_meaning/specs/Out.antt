@@ -1,4 +1,4 @@
--- What evaluations come to, without budget, thread or order of work.
+-- The outcomes of evaluations, without budget, thread or order of work.
 use Rattle.std.specs.Prelude.{ℕ, ◌+◌, max, nat_le, List, [], ◌∷◌, ◌++◌, Option, Some, None, if◌then◌else◌}
 use Rattle.nesl_lex.specs.declared.token.Span.{Span}
 use Rattle.nesl_scalars.specs.declared.trap.Trap.{Trap}
@@ -10,7 +10,7 @@ pub data Out (X : Type 0) : Type 0 where
   fault : Trap → Span → (work : ℕ) → Out X
   stuck : Out X
 
--- the same after so much work and depth
+-- the same after this work and depth
 abbrev pub after_cost : {X : Type 0} → ℕ → ℕ → Out X → Out X
 after_cost w d (value x w' d') = value x (w + w') (d + d')
 after_cost w d (fault t s w') = fault t s (w + w')
@@ -27,7 +27,7 @@ abbrev pub given : {X Y : Type 0} → Option X → (X → Out Y) → Out Y
 given (Some x) k = k x
 given None k = stuck
 
--- a fault inside a called body is told with the span of the call
+-- a fault inside a called body has the span of the call
 abbrev pub at_call : {X : Type 0} → Span → Out X → Out X
 at_call s (value x w d) = value x w d
 at_call s (fault t s' w) = fault t s w

@@ -1,6 +1,6 @@
--- What an expression comes to with so many levels: its value or its fault, with the work and the depth, or neither.
--- The forms of expressions and what they mean are the NESL report's; works, depths, faults and the limits are this
--- profile's.
+-- What an expression evaluates to with a number of levels: its value or its fault, with the work and the depth, or
+-- neither. The forms of expressions and what they mean are the NESL report's; works, depths, faults and the limits are
+-- this profile's.
 use Rattle.std.specs.Prelude.{ℕ, zero, suc, ◌+◌, ◌-◌, pos, min, nat_le, Bool, true, false, cond, List, [], ◌∷◌, map}
 use Rattle.std.specs.Prelude.{length, slice_get, Option, Some, None, option_map, option_and_then, ◌==◌, if◌then◌else◌}
 use Rattle.std.specs.List.{range_with_len, list_all}
@@ -27,7 +27,7 @@ use Rattle.nesl_eval_meaning.specs.Names.{datatype_of}
 use Rattle.nesl_eval_meaning.specs.Names.{Environment, look_up, bound}
 use Rattle.nesl_eval_meaning.specs.Out.{Out, value, fault, stuck, after_cost, and_then, given, at_call, all_beside}
 
--- what parts come to, in a scope
+-- what parts evaluate to, in a scope
 abbrev pub PartOutcomes : Type 0
 PartOutcomes = Scope → Tree → Out Value
 
@@ -75,7 +75,7 @@ call_name f s None (Some (function_of p e)) v = at_call s (in_bound f p v (outsi
 call_name f s None (Some (datatype_of k)) v = small_enough s (values.tagged k v)
 call_name f s None _ v = stuck
 
--- one of two, as the test tells
+-- one of two, by the test
 abbrev pub branch : Option Bool → Out Value → Out Value → Out Value
 branch (Some true) o p = o
 branch (Some false) o p = p
@@ -155,7 +155,7 @@ abbrev pub over_places : PartOutcomes → Span → Binders → Scope → (List V
 over_places f s bs sc k =
     and_then (all_parts f sc (sources bs)) (λ vs. given (lengths vs) (λ ns. and_then (common_places s ns) (k vs)))
 
--- a node besides its own 1, from what its parts come to
+-- a node besides its own 1, from what its parts evaluate to
 abbrev pub node_of : PartOutcomes → Environment → Scope → Tree → Out Value
 node_of f env sc (node s (trees.number n)) = value (values.int (pos (min n greatest_number))) 0 0
 node_of f env sc (node s (trees.truth b)) = value (values.boolean b) 0 0

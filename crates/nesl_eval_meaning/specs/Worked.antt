@@ -86,7 +86,7 @@ pub fact_of_three :
 unfolding out builtin_named
 fact_of_three = refl
 
--- `function q(x) = 1 / x`, and `q(0)` at the bytes 3 to 7: the fault is told with the span of the call
+-- `function q(x) = 1 / x`, and `q(0)` at the bytes 3 to 7: the fault has the span of the call
 pub fault_in_a_call :
     out 20 ((
       codes "q",

@@ -1,4 +1,4 @@
-//! Laws of what expressions come to.
+//! Laws of what expressions evaluate to.
 
 ghost use Rattle.std.specs.Prelude.{◌≡◌, ◌++◌, ℕ, List};
 ghost use Rattle.nesl_eval_meaning.specs.Out.{Out, stuck, beside, all_beside, within};
@@ -20,7 +20,7 @@ pub fn joins_neighbours()
         → halves_joined (within b o) (within b p) b ≡ within b (beside o p) }
 {}
 
-/// The outcomes at places, cut in two anywhere, are those at the places before the cut, beside those behind it.
+/// The outcomes at places, cut in two anywhere, are those at the places before the cut, beside those after it.
 pub fn halves_places()
     ensures values { (f : ℕ → Out (List Value)) (is js : List ℕ)
         → all_beside f (is ++ js) ≡ beside (all_beside f is) (all_beside f js) }

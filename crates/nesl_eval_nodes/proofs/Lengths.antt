@@ -19,7 +19,7 @@ use Rattle.nesl_eval_nodes.proofs.Arms.{LenIs}
 some_same : {X : Type 0} (x y : X) → Some x ≡ Some y → x ≡ y
 some_same x y h = ap (λ o. unwrap_or o x) h
 
--- what a test of these lengths, if they are there, tells
+-- what a test of these lengths returns, if they are there
 abbrev pub TellsAll : ℕ → Option (List ℕ) → Option Bool → Type 0
 TellsAll n o r = (ns : List ℕ) → o ≡ Some ns → r ≡ Some (list_all (λ m. m == n) ns)
 

@@ -20,7 +20,7 @@ pub keeps_truth : {A : Type 0} (m0 m1 : Meter) (v : code.Value A) (r : Result Bo
 keeps_truth m0 m1 v (Ok b) i o h p = keeps_value m0 m1 v b i o p (sym h)
 keeps_truth m0 m1 v (Err e) i o h p = rw h.0 (keeps_none m0 m1 v i o p (sym h.1))
 
--- what stands at the place is called
+-- what is at the place is called
 pub called_held : (f : Runs) (s : Span) (q : Option Slot) (v : Value) → run_called f s (Some (unwrap_or q nothing_slot)) v ≡ run_called f s q v
 called_held f s None v = refl
 called_held f s (Some (variable_slot x)) v = refl

@@ -11,11 +11,11 @@ use Rattle.nesl_eval_nodes.proofs.Runs.{LeadsTo, memory_any}
 abbrev pub meter : ℕ → ℕ → Meter
 meter f d = record { fuel = f; depth = d }
 
--- what stands before has its list and its greatest depth, and its work has been taken
+-- what is before has its list and its greatest depth, and its work has been taken
 abbrev pub after : {X : Type 0} → List X → ℕ → Out (List X) → Out (List X)
 after xs most o = beside (value xs 0 most) o
 
--- a place that came to a list: from less fuel, what is left leads to the whole
+-- a place that evaluated to a list: from less fuel, what is left leads to the whole
 side_value : {R X : Type 0} (T : R → List X → Type 0) (f0 f1 start w d most : ℕ) (xs ys : List X) (l : Meter) (r : Result R Stop) (o : Out (List X)) → f0 ≡ f1 + w → Meets T (meter f1 start) r l (after (xs ++ ys) (max most d) o) → Meets T (meter f0 start) r l (after xs most (beside (value ys w d) o))
 side_value T f0 f1 start w d most xs ys l r stuck e h = tt
 side_value T f0 f1 start w d most xs ys l (Ok v) (value zs w' d') e h = (subst (λ q. T v q) (append_assoc xs ys zs) h.0, omega (arith, h.1), h.2 ∙ ap (λ q. start + q) (omega arith))

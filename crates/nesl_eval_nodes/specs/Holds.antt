@@ -5,13 +5,13 @@ use Rattle.nesl_eval_code.specs.Run.{Slot, variable_slot, function_slot, datatyp
 use Rattle.nesl_eval_nodes.specs.declared.held.Held.{Held}
 use Rattle.nesl_eval_nodes.specs.declared.held.Held.TheVariants.{Variable, Function, Datatype, Nothing}
 
--- what is lent stands at a place
+-- the slot that is lent
 abbrev pub held_slot : {A : Type 0} → Held A → Slot
 held_slot (Variable v) = variable_slot (tree_of v.now)
 held_slot (Function c) = function_slot c.now
 held_slot (Datatype k) = datatype_slot k
 held_slot Nothing = nothing_slot
 
--- what is lent is what stands at the place, or nothing where there is no such place
+-- what is lent is what the table has at the place, or nothing where there is no such place
 abbrev pub HoldsSlot : {A : Type 0} → Table → ℕ → Held A → Type 0
 HoldsSlot t k h = held_slot h ≡ unwrap_or (slot_at t k) nothing_slot

@@ -1,4 +1,4 @@
--- What a run under a meter tells of an outcome.
+-- When a run under a meter has an outcome.
 use Rattle.std.specs.Prelude.{◌≡◌, ◌+◌, ◌<◌, Result, Ok, Err}
 use Rattle.nesl_values.specs.View.{tree_of}
 use Rattle.nesl_values.specs.declared.value.Value as values
@@ -9,7 +9,7 @@ use Rattle.nesl_eval_meaning.specs.Names.{Value}
 use Rattle.nesl_eval_meaning.specs.Out.{Out, value, fault, stuck}
 
 -- the run gave what the outcome says, and took its work off the fuel; nothing is said where the outcome is stuck or
--- memory was wanting
+-- memory ran out
 abbrev pub Meets : {R X : Type 0} → (R → X → Type 0) → Meter → Result R Stop → Meter → Out X → Type 0
 Meets T m r n stuck = Unit {0}
 Meets T m (Ok v) n (value x w d) = (T v x) × (m.fuel ≡ n.fuel + w) × (n.depth ≡ m.depth + d)

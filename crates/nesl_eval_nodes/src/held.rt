@@ -7,7 +7,7 @@ use nesl_eval_code::Code;
 use nesl_values::Value;
 use std::alloc::{AllocError, Allocator};
 
-/// What stands at a place of the top level.
+/// What is at a place of the top level.
 #[derive_where(Copy)]
 pub enum Held<'a, A: Allocator> {
     Variable(&'a Value<A>),
@@ -35,7 +35,7 @@ impl<A: Allocator> Clone for Held<'_, A> {
 pub trait Tops<A: Allocator> {
     ghost use Rattle.nesl_eval_code.specs.Run.{Table};
 
-    /// The names, and what stands there.
+    /// The names, and what each is.
     ghost table: { Self → Table };
 
     ghost use Rattle.nesl_eval_nodes.specs.Holds.{HoldsSlot};

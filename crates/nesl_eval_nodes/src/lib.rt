@@ -1,5 +1,5 @@
-//! What the nodes of an expression make of what their parts come to, and what evaluation keeps beside them: the top
-//! level as it is lent, the local names, and the meter. Nothing here recurs over code.
+//! What the nodes of an expression make of what their parts evaluate to, and what evaluation keeps beside them: the
+//! top level as it is lent, the local names, and the meter. Nothing here recurs over code.
 #![tactic(auto)]
 
 pub mod elements;

@@ -2,7 +2,7 @@
 ghost use Rattle.std.specs.Prelude.{◌≡◌, ◌<◌, Some, length, slice_get};
 ghost use Rattle.nesl_eval_nodes.specs.Sides.{places_of};
 
-/// All of so many places, or those that a filter kept.
+/// The places of an apply-to-each: all up to a number, or those that a filter kept.
 #[derive(Clone, Copy)]
 pub enum Places<'a> {
     All(usize),

@@ -16,7 +16,7 @@ pub struct Scope<'a, A: Allocator> {
     pub sizes: &'a [usize],
 }
 
-// The values of the newest frame, which has this size, behind those of the others.
+// The values of the newest frame, which has this size, after those of the others.
 fn split_newest<'a, A: Allocator>(
     values: &'a [Value<A>],
     size: usize,
@@ -33,7 +33,7 @@ fn value_at<'a, A: Allocator>(values: &'a [Value<A>], index: usize) -> Option<&'
     values.get(index)
 }
 
-/// What stands at an index of a frame.
+/// What is at an index of a frame.
 pub fn place_in<'a, A: Allocator>(
     scope: &Scope<'a, A>,
     up: usize,
@@ -77,7 +77,7 @@ pub fn part_of<'a, A: Allocator>(value: &'a Value<A>, steps: &[Step]) -> Option<
     }
 }
 
-/// What a local name stands for, which `steps` reach from what stands at an index of a frame.
+/// What a local name means, which `steps` reach from what is at an index of a frame.
 pub fn lent_local<'a, A: Allocator>(
     scope: &Scope<'a, A>,
     up: usize,

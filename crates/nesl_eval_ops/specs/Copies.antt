@@ -6,7 +6,7 @@ use Rattle.nesl_eval_code.specs.declared.code.Code.{Code}
 use Rattle.nesl_eval_code.specs.Block.{Block}
 use Rattle.nesl_eval_code.specs.Flat.{flat, leaf_of, applying}
 
--- one code is laid out as the other is, wherever they stand: with what comes after it, as a leaf, and as an argument
+-- one code is laid out as the other is, wherever they are: with what comes after it, as a leaf, and as an argument
 pub record IsLaidAs (c d : Code) : Type 0 where
   pub alone : (h : ℕ) (ks : List ℕ) (o : Option Block) → flat h ks c o ≡ flat h ks d o
   pub leaf : (ks : List ℕ) → leaf_of ks c ≡ leaf_of ks d

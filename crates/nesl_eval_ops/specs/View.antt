@@ -91,7 +91,7 @@ HasBodies t bs =
     (k : ℕ) (o : Ops) (c : Code) → slice_get bs k ≡ Some (Some o) → slot_at t k ≡ Some (function_slot c)
     → block_of o ≡ laying.block (1 ∷ []) c
 
--- the sizes that a value of the program stands for
+-- the sizes that a value of the program means
 abbrev pub sizes_step : Sizes-F (List ℕ) → List ℕ
 sizes_step Sizes-F.Top = []
 sizes_step (Sizes-F.Frame k outer) = k ∷ outer.now

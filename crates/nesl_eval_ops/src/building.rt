@@ -161,7 +161,7 @@ pub(crate) fn of_leaves(
     boxed(alloc, made)
 }
 
-/// A node of so many values on top and leaves.
+/// A node of `count` values on top and of leaves.
 #[inline(never)]
 pub(crate) fn of_many(
     alloc: Global,
@@ -198,7 +198,7 @@ pub(crate) fn deciding(
     }
 }
 
-/// Behind a `let`: its names are forgotten, where anything comes after.
+/// After a `let`: its names are forgotten, where anything comes after.
 #[inline(never)]
 pub(crate) fn forgetting(
     at: &Place<'_>,
@@ -250,7 +250,7 @@ pub(crate) fn calling(
     boxed(at.alloc, call)
 }
 
-/// The operation that takes a body to all places of so many sequences.
+/// The operation that takes a body to all places of `count` sequences.
 #[inline(never)]
 pub(crate) fn each_of(
     at: &Place<'_>,
@@ -270,7 +270,7 @@ pub(crate) fn each_of(
     boxed(at.alloc, each)
 }
 
-/// The operation that takes a body to the places of so many sequences where a filter holds.
+/// The operation that takes a body to the places of `count` sequences where a filter holds.
 #[inline(never)]
 pub(crate) fn filtered_of(
     at: &Place<'_>,

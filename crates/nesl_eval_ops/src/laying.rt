@@ -146,7 +146,6 @@ fn laid_three(
     }
 }
 
-/// A call.
 #[cycle(laying)]
 #[inline(never)]
 fn laid_call(
@@ -188,7 +187,6 @@ fn laid_named(
     }
 }
 
-/// A choice.
 #[cycle(laying)]
 #[inline(never)]
 fn laid_choice(
@@ -210,7 +208,6 @@ fn laid_choice(
     }
 }
 
-/// A sequence.
 #[cycle(laying)]
 #[inline(never)]
 fn laid_sequence(
@@ -227,7 +224,6 @@ fn laid_sequence(
     }
 }
 
-/// A `let`.
 #[cycle(laying)]
 #[inline(never)]
 fn laid_let(at: &Place<'_>, code: &Code, next: Option<Box<Block>>) -> Result<Box<Block>, AllocError>
@@ -551,7 +547,7 @@ fn of_filtered(
     enter(at, span, made)
 }
 
-/// The operations of code inside one more frame of so many values.
+/// The operations of code inside one more frame, of `size` values.
 #[cycle(laying)]
 #[inline(never)]
 fn inside(
@@ -572,7 +568,7 @@ fn inside(
     laid(&inner, code, next)
 }
 
-/// The body or the filter of an apply-to-each of so many sequences.
+/// The body or the filter of an apply-to-each of `count` sequences.
 #[cycle(laying)]
 #[inline(never)]
 fn each_body(at: &Place<'_>, count: usize, code: &Code) -> Result<Box<Body>, AllocError>

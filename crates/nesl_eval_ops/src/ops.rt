@@ -21,7 +21,7 @@ pub enum What {
     Character(u8),
     Text(Box<Vec<u8>>),
     Empty,
-    /// A local name without steps. The values of local names stand one after the other, those of the newest frame last.
+    /// A local name without steps. The values of local names lie one after the other, those of the newest frame last.
     Local(usize),
     /// The left part of the pair at a place.
     Left(usize),
@@ -171,7 +171,7 @@ pub enum Body {
 #[derive(Drop)]
 pub struct Plain {
     pub(crate) ops: Ops,
-    /// The height of the code in the body of the function or in the expression that it stands in.
+    /// The height of the code in the body of the function or in the expression that it is in.
     pub(crate) height: u32,
     /// The sizes of the frames round the code, its own first.
     pub(crate) sizes: Vec<usize>,
@@ -238,7 +238,7 @@ impl Body {
     }
 }
 
-/// Operations. Values stand on a stack, the last one on top. A height is that of a node in its body; a node is entered
+/// Operations. Values are on a stack, the last one on top. A height is that of a node in its body; a node is entered
 /// before its parts.
 #[cycle(ops)]
 pub enum Ops {
@@ -285,7 +285,7 @@ pub enum Ops {
         node: TwoNode,
         next: Box<Block>,
     },
-    /// What is made of so many values on top and leaves.
+    /// What is made of `count` values on top and of leaves.
     OfMany {
         node: ManyNode,
         count: usize,
@@ -298,7 +298,7 @@ pub enum Ops {
         no: Box<Block>,
         next: Box<Block>,
     },
-    /// The one or the other, where nothing else is left to do.
+    /// The one or the other, after which nothing is left to do.
     Last {
         yes: Box<Block>,
         no: Box<Block>,
@@ -314,19 +314,19 @@ pub enum Ops {
     Bind {
         next: Box<Block>,
     },
-    /// Only the first so many local names are left.
+    /// Only the first `places` local names are left.
     Forget {
         places: usize,
         next: Box<Block>,
     },
-    /// A body at all places of so many sequences.
+    /// A body at all places of `count` sequences.
     Each {
         span: Span,
         count: usize,
         body: Box<Body>,
         next: Box<Block>,
     },
-    /// A body at the places of so many sequences where a filter holds.
+    /// A body at the places of `count` sequences where a filter holds.
     Filtered {
         span: Span,
         count: usize,
@@ -337,7 +337,7 @@ pub enum Ops {
 }
 
 // A loop along the operations: it recurs only into a side of a choice, a body or a filter, of which no more than a
-// node's levels stand in one another.
+// node's levels are inside one another.
 impl Drop for Ops {
     #[cycle(drops)]
     fn drop(mut self) {

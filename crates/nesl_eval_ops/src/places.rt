@@ -1,11 +1,11 @@
-//! Where a node stands while its code is laid out.
+//! Where a node is while its code is laid out.
 ghost use Rattle.std.specs.Prelude.{◌≡◌, ◌∷◌, [], IfOk, suc};
 ghost use Rattle.nesl_eval_ops.specs.View.{sizes_of};
 
 use crate::sizes::Sizes;
 use std::alloc::{AllocError, Global};
 
-/// Where a node stands: its height in its body, and the sizes of the frames round it.
+/// Where a node is: its height in its body, and the sizes of the frames round it.
 #[derive(Clone, Copy)]
 pub(crate) struct Place<'a> {
     pub(crate) alloc: Global,
@@ -26,7 +26,7 @@ pub(crate) fn within<'a>(size: usize, outer: &'a Sizes<'a>) -> Sizes<'a>
 }
 
 impl<'a> Place<'a> {
-    /// Where the parts of a node stand that stands here.
+    /// The place of the parts of the node at this place.
     pub(crate) fn above(&self) -> Result<Place<'a>, AllocError>
         ensures { IfOk result (λ p. (p.height ≡ suc self.now.height) × (p.sizes ≡ self.now.sizes)) }
     {

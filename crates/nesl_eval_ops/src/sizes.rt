@@ -16,7 +16,7 @@ const FEW_FRAMES: usize = 3;
 pub(crate) enum Sizes<'a> {
     /// No frame.
     Top,
-    /// A frame of so many values, and those outside it.
+    /// A frame with the number of its values, and the frames outside it.
     Frame(usize, &'a Sizes<'a>),
 }
 
@@ -28,7 +28,7 @@ pub(crate) fn room(sizes: &Sizes<'_>) -> Result<usize, AllocError>
     room_and(sizes, 0)
 }
 
-/// How many values the frames hold, and so many more. It recurs over the frames.
+/// How many values the frames hold, and `more`. It recurs over the frames.
 fn room_and(sizes: &Sizes<'_>, more: usize) -> Result<usize, AllocError>
     ensures { IfOk result (λ n. n ≡ room (sizes_of sizes.now) + more) }
 {
@@ -41,7 +41,7 @@ fn room_and(sizes: &Sizes<'_>, more: usize) -> Result<usize, AllocError>
     }
 }
 
-/// The frames from the one on that is so many frames up. It recurs over the frames.
+/// The frames from the one on that is `up` frames up. It recurs over the frames.
 fn frames_up<'a>(sizes: &'a Sizes<'a>, up: usize) -> &'a Sizes<'a>
     ensures { (index : ℕ) → place_of (sizes_of result.now) 0 index ≡ place_of (sizes_of sizes.now) up index }
 {
@@ -57,7 +57,7 @@ fn frames_up<'a>(sizes: &'a Sizes<'a>, up: usize) -> &'a Sizes<'a>
     }
 }
 
-/// The place of the value so many frames up, at that index of the frame, if there is one.
+/// The place of the value `up` frames up, at that index of the frame, if there is one.
 #[inline(always)]
 pub(crate) fn place_of<'a>(
     sizes: &'a Sizes<'a>,

@@ -25,7 +25,7 @@ impl Model for ShortSpan {
 }
 
 impl ShortSpan {
-    /// The span. One that doesn't fit is refused as memory that there is not.
+    /// The span. One that doesn't fit is refused as if memory had run out.
     pub(crate) fn new(span: Span) -> Result<ShortSpan, AllocError>
         ensures { IfOk result (λ s. s ≡ span) }
     {

@@ -1,4 +1,4 @@
--- What is found for one of two parts, as a test tells at each turn.
+-- What is found for one of two parts, by a test at each turn.
 use Rattle.std.proofs.Common.{◌≡◌, ℕ, ◌+◌, Bool, true, false, List, [], map, Option, Some, sym, ap, ◌∙◌}
 use Rattle.std.specs.Prelude.{slice_get, option_and_then}
 use Rattle.std.proofs.lemmas.Option.{slice_get-map, none-some}
@@ -16,7 +16,7 @@ use Rattle.nesl_eval_column_results.specs.Frames.{IsAt, AreAt}
 use Rattle.nesl_eval_plain.specs.Found.{Chooses}
 use Rattle.nesl_eval_column_results.proofs.Framed.{mapped_some}
 
--- the test, and then the side that it tells
+-- the test, and then the side that it chooses
 pub choice_finds : (f : Runs) (at : ℕ → Option Frames) (a b c : Code) (bs : List Bool) (xs : List Value) (vs : ℕ → Option Value) (ms ns os : ℕ → Option ℕ) → AreAt (λ fs. f fs a) at (slice_get xs) ms → map boolean bs ≡ xs → Chooses (slice_get bs) (λ fs. f fs b) (λ fs. f fs c) at vs ns → Sums ms ns os → AreAt (λ fs. and_then (f fs a) (λ x. branch (as_bool x) (f fs b) (f fs c))) at vs os
 choice_finds f at a b c bs xs vs ms ns os h is so sums = λ k fs q.
     let x = h k fs q in

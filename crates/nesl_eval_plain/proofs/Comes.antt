@@ -1,4 +1,4 @@
--- Places that come to values, with the same work and depth.
+-- Places that evaluate to values, with the same work and depth.
 use Rattle.std.proofs.Common.{◌≡◌, ℕ, suc, ◌+◌, ◌-◌, ◌*◌, ◌<◌, max, Bool, cond, List, [], ◌∷◌, ◌++◌, map, length, refl, ap, ◌∙◌, arith, subst, ◌≤◌, replicate, Vec, Option, Some, None, sym}
 use Rattle.std.specs.Prelude.{sum, slice_get, option_map}
 use Rattle.nesl_values.specs.Tree.{boolean, size}
@@ -56,7 +56,7 @@ rows_come b p c count vs within len turns costs h =
     let inside : k < count = omega (arith, slice_get_within (block_places b) k i e, all, turns) in
     (x.0, x.1, x.2, cost_listed c.same count c.more k x.1 inside x.3, x.4))
 
--- the bodies, whose values have so many nodes each
+-- the bodies, whose values have `m` nodes each
 pub bodies_of : (p : ℕ → Out Value) (is : List ℕ) (vs : List Value) (ns : List ℕ) (m : ℕ) → Comes p is vs ns → AreOfSize m vs → all_beside (λ i. and_then (p i) body_value) is ≡ value vs (sum ns + m * length is) (greatest ns)
 bodies_of p [] [] [] m h l = cost_is [] 0 (sum [] + m * 0) 0 0 (omega arith) refl
 bodies_of p (i ∷ is) (v ∷ vs) (n ∷ ns) m h l =

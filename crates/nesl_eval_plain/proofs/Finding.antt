@@ -104,7 +104,7 @@ let_is f fs vs (c ∷ cs) e =
     then_so (f (frame vs ∷ fs) c) (λ v. run_let f fs (vs ++ v ∷ []) cs e) (λ v. let_from f fs (frame vs ++ Some v ∷ []) cs e)
     (λ v. let_is f fs (vs ++ v ∷ []) cs e ∙ ap (λ os. let_from f fs os cs e) (map-append Some vs (v ∷ [])))
 
--- so far the bindings have come to these values, at these costs
+-- so far the bindings have evaluated to these values, at these costs
 abbrev pub Along : {A : Type 0} → Runs → (ℕ → Option Frames) → List Code → Code → List (Columns A) → List Code → (ℕ → Option ℕ) → Type 0
 Along f at cs e us rest ns = (k : ℕ) (fs : Frames) → at k ≡ Some fs → (n : ℕ) × (ns k ≡ Some n) × (let_from f fs [] cs e ≡ after_cost n n (let_from f fs (bound_at us k) rest e))
 

@@ -1,4 +1,4 @@
--- Code that comes to a leaf at each place, with the same work and depth.
+-- Code that evaluates to a leaf at each place, with the same work and depth.
 use Rattle.std.specs.Prelude.{◌≡◌, ℕ, Bool, cond, List, [], ◌∷◌, ◌++◌}
 use Rattle.nesl_eval_meaning.specs.Names.{Value}
 use Rattle.nesl_eval_meaning.specs.Out.{Out, value}

@@ -20,7 +20,8 @@ Finds p at r = AreAt p at (leaf_at r) (cost_at r)
 abbrev pub Yields : {A : Type 0} → (Frames → Out Value) → (ℕ → Option Frames) → Results A → Type 0
 Yields p at r = AreAt p at (value_at r.values) (costs_at r.costs)
 
--- of two outcomes the one that the flag at a turn tells is the leaf there, and both its work and its depth are the cost
+-- of two outcomes the one that the flag at a turn chooses is the leaf there, and both its work and its depth are the
+-- cost
 abbrev pub Chooses
     : (ℕ → Option Bool) → (Frames → Out Value) → (Frames → Out Value) → (ℕ → Option Frames) → (ℕ → Option Value)
     → (ℕ → Option ℕ) → Type 0

@@ -25,7 +25,7 @@ pub struct Bodies<A: Allocator> {
     pub costs: Costs<A>,
 }
 
-/// What a body comes to, if it is plain and has a value at each turn.
+/// What a body evaluates to, if it is plain and has a value at each turn.
 pub fn bodies_at<'x, A: Allocator + Copy, T: Tops<A>>(
     block: &'x Block<'x, A, T>,
     code: &Code,
@@ -49,7 +49,7 @@ pub fn bodies_at<'x, A: Allocator + Copy, T: Tops<A>>(
     })
 }
 
-/// What a filter comes to, if it is plain and has a leaf at each turn.
+/// What a filter evaluates to, if it is plain and has a leaf at each turn.
 pub fn filter_at<'x, A: Allocator + Copy, T: Tops<A>>(
     block: &'x Block<'x, A, T>,
     code: &Code,

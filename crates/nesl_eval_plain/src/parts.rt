@@ -30,7 +30,7 @@ use nesl_seqs_base::seq_fn::SeqFn;
 use nesl_values::Value;
 use std::alloc::Allocator;
 
-/// What code comes to, if it is plain and has a value at each turn.
+/// What code evaluates to, if it is plain and has a value at each turn.
 #[cycle(plain)]
 pub fn results<'x, A: Allocator + Copy, T: Tops<A>>(
     block: &'x Block<'x, A, T>,
@@ -47,7 +47,7 @@ pub fn results<'x, A: Allocator + Copy, T: Tops<A>>(
     entered(found)
 }
 
-/// The leaves that code comes to, if it is plain and has a leaf at each turn.
+/// The leaves that code evaluates to, if it is plain and has a leaf at each turn.
 #[cycle(plain)]
 pub fn column<'x, A: Allocator + Copy, T: Tops<A>>(
     block: &'x Block<'x, A, T>,
@@ -78,7 +78,7 @@ fn free<A: Allocator>(values: Columns<A>) -> Results<A>
     }
 }
 
-// What a node comes to that has been entered; its parts may go so far.
+// What a node evaluates to that has been entered; its parts may go as far as `reach` allows.
 #[cycle(plain)]
 fn node<'x, A: Allocator + Copy, T: Tops<A>>(
     block: &'x Block<'x, A, T>,
@@ -117,7 +117,7 @@ fn node<'x, A: Allocator + Copy, T: Tops<A>>(
     }
 }
 
-// What a node without parts comes to.
+// What a node without parts evaluates to.
 fn end<'x, A: Allocator + Copy, T: Tops<A>>(
     block: &'x Block<'x, A, T>,
     scopes: &Scopes<'_, A>,
@@ -229,7 +229,7 @@ fn call<'x, A: Allocator + Copy, T: Tops<A>>(
     })
 }
 
-// One of two parts at each turn, as the test tells there. Both have leaves.
+// One of two parts at each turn, by the test there. Both have leaves.
 #[cycle(plain)]
 fn choice<'x, A: Allocator + Copy, T: Tops<A>>(
     block: &'x Block<'x, A, T>,
@@ -254,7 +254,7 @@ fn choice<'x, A: Allocator + Copy, T: Tops<A>>(
     })
 }
 
-// What each turn comes to on its side. A side is evaluated at its own turns only.
+// What each turn evaluates to on its side. A side is evaluated at its own turns only.
 #[cycle(plain)]
 fn chosen<'x, A: Allocator + Copy, T: Tops<A>>(
     block: &'x Block<'x, A, T>,
@@ -287,7 +287,7 @@ fn chosen<'x, A: Allocator + Copy, T: Tops<A>>(
     merged(sides, &one, &other, *block.alloc)
 }
 
-// A function of the two parts that an operator stands between.
+// A function of the two parts of an operator.
 #[cycle(plain)]
 fn apply_two<'x, A: Allocator + Copy, T: Tops<A>>(
     block: &'x Block<'x, A, T>,

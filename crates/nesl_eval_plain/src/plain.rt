@@ -12,7 +12,7 @@ use std::alloc::Allocator;
 const MOST: u32 = 100;
 
 /// Whether code is made of constants, names, pairs, functions of scalars, elements and lengths, and `let`s, choices
-/// and calls of functions with a plain body. What a name of a value stands for is not looked at. Nothing is said of the
+/// and calls of functions with a plain body. What a name of a value means is not looked at. Nothing is said of the
 /// answer, since only time rests on it: code that has no columns has none whatever is answered here.
 pub fn is_plain<'x, A: Allocator + Copy, T: Tops<A>>(
     block: &'x Block<'x, A, T>,
@@ -23,7 +23,7 @@ pub fn is_plain<'x, A: Allocator + Copy, T: Tops<A>>(
     is_plain_part(block, code, Some(0), levels.min(HEIGHT), &mut left)
 }
 
-// Whether a part is plain. The row stands `row` frames up; the body of a function sees no row. Of such bodies `left`
+// Whether a part is plain. The row is `row` frames up; the body of a function sees no row. Of such bodies `left`
 // more nodes may be looked at.
 #[cycle(plainness)]
 fn is_plain_part<'x, A: Allocator + Copy, T: Tops<A>>(
@@ -67,7 +67,7 @@ fn is_plain_part<'x, A: Allocator + Copy, T: Tops<A>>(
     }
 }
 
-// Whether a call, a `let` or a choice is plain, whose parts have so many levels.
+// Whether a call, a `let` or a choice is plain, whose parts have `levels` levels.
 #[cycle(plainness)]
 fn is_plain_form<'x, A: Allocator + Copy, T: Tops<A>>(
     block: &'x Block<'x, A, T>,
@@ -111,7 +111,7 @@ fn counted(row: Option<usize>, left: &mut u32) -> bool {
     }
 }
 
-// Where the row stands seen from one frame further in.
+// Where the row is, seen from one frame further in.
 fn one_up(row: Option<usize>) -> Option<usize> {
     match row {
         Some(up) => up.checked_add(1),

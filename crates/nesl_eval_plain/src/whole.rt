@@ -61,7 +61,7 @@ fn part<'x, A: Allocator + Copy, T>(
     }
 }
 
-// Whether the fuel is enough for so many times this work, which is the least that the turns cost.
+// Whether the fuel is enough for `count` times this work, which is the least that the turns cost.
 fn suffices(fuel: u64, count: usize, each: u64) -> bool {
     match each.checked_mul(count as u64) {
         Some(work) => work <= fuel,
@@ -69,7 +69,7 @@ fn suffices(fuel: u64, count: usize, each: u64) -> bool {
     }
 }
 
-// What is left of the fuel after this work and values with so many nodes in all, if there is so much.
+// What is left of the fuel after this work and values with `nodes` nodes in all, if it suffices.
 fn charged(fuel: u64, work: u64, nodes: u64) -> Option<u64>
     ensures { IfSome result (λ rest. fuel ≡ rest + (work + nodes)) }
 {
@@ -178,8 +178,8 @@ fn one_if(flag: bool) -> usize
     if flag { 1 } else { 0 }
 }
 
-// Writes the places from one turn to another at which the filter holds, one behind the other, and tells how many there
-// are. Each place is written, and counts only where the filter holds: there is no branch.
+// Writes the places from one turn to another at which the filter holds, one after the other, and returns how many
+// there are. Each place is written, and counts only where the filter holds: there is no branch.
 fn write_chosen(
     out: &mut [usize],
     places: Places<'_>,

@@ -17,7 +17,7 @@ use Rattle.nesl_eval_top_level.specs.declared.env.Payload.TheVariants as payload
 use Rattle.nesl_eval_top_level.specs.Stored.{Entry, Codes, slot_of, table, with_code}
 use Rattle.nesl_eval_top_level.specs.Laid.{IsLaid, AreLaid, with_body}
 
--- where a function's slot stands, its code is there, and so are its operations
+-- where there is a function's slot, its code is there, and so are its operations
 slot_laid : (t : kinds.Top) (p : Payload) (c : Option Code) (o : Ops) (d : Code) → IsLaid c (Some o) → slot_of t p c ≡ function_slot d →
     block_of o ≡ block (1 ∷ []) d
 slot_laid t p None o d h e = absurd h

@@ -10,7 +10,7 @@ later : (b : Name × Slot) (bs : Table) (o : Option ℕ) → option_and_then (sl
 later b bs None = refl
 later b bs (Some k) = refl
 
--- what stands at a name's place is what stands under the name
+-- what is at a name's place is what the name means
 pub place_named : (t : Table) (x : Name) → option_and_then (slot_at t) (place_of (names_of t) x) ≡ look_up t x
 place_named [] x = refl
 place_named (b ∷ bs) x =

@@ -1,4 +1,4 @@
--- What stands at top level.
+-- What is at top level.
 use Rattle.std.proofs.Common.{◌≡◌, ◌<◌, ℕ, zero, suc, Bool, true, false, refl, sym, ◌∙◌, ap, subst, arith, List, [], ◌∷◌, ◌++◌, append_assoc, append-nil, Option, Some, None, Vec, Global}
 use Rattle.std.specs.Prelude.{option_map, option_and_then, slice_get, is_some, unwrap_or, if◌then◌else◌}
 use Rattle.std.specs.Str.{bytes_eq}
@@ -141,7 +141,7 @@ set_stored x k p key code bs cs h q here =
     (set_codes x k p (with_place x (names_in bs)) key code q (subst H (same_names (names_in bs) bs cs h) here) bs cs
     (subst G (sym more.1) (all_more (names_in bs) more.0 bs cs h)))
 
--- what stands at a place is set
+-- what is at a place is set
 names_kept : (i : ℕ) (k : kinds.Top) (p : Payload) (bs : List Entry) → names_in (with_name_at i k p bs) ≡ names_in bs
 names_kept i k p [] = refl
 names_kept zero k p (b ∷ bs) = refl
@@ -188,7 +188,7 @@ set_at x k p i (b ∷ bs) h = by (bytes_eq x b.0) i h (λ j e. set_at x k p j bs
     by false zero e f = absurd (no_first (place_of (names_in bs) x) e)
     by false (suc j) e f = ap (λ y. b ∷ y) (f j (before (place_of (names_in bs) x) j e))
 
--- what stands at a place
+-- what is at a place
 abbrev pub between : Option Entry → Option (Vec ℕ Global × Option Code) → Slot
 between b None = nothing_slot
 between None (Some c) = nothing_slot

@@ -43,7 +43,7 @@ enough added ls ms n e h =
     let long : length ms ≡ length (added ++ ls) = ap length h in
     omega (arith, length-append added ls)
 
--- and without them they are what they were
+-- and without them the list is as it was before
 pub taken_back : (added ls ms os : List (List ℕ)) (n : ℕ) → n ≡ length ls → ms ≡ added ++ ls → os ≡ drop (length ms - n) ms → os ≡ ls
 taken_back added ls ms os n e h d =
     d ∙ ap (λ (x : List (List ℕ)). drop (length x - n) x) h ∙ ap (λ (k : ℕ). drop (length (added ++ ls) - k) (added ++ ls)) e ∙ dropped added ls

@@ -1,4 +1,4 @@
--- Unknown names stand in the order of the text, since the nodes of a line do.
+-- Unknown names are in the order of the text, since the nodes of a line are.
 use Rattle.std.proofs.Common.{ℕ, ◌≤◌, Bool, true, false, List, [], ◌∷◌, ◌++◌, Option, arith}
 use Rattle.std.specs.Option.{is_some}
 use Rattle.nesl_lex.specs.declared.token.Span.{Span}

@@ -1,4 +1,4 @@
--- What names refer to where an expression stands, and which of them refer to nothing.
+-- What names refer to where an expression is, and which of them refer to nothing.
 use Rattle.std.specs.Prelude.{ℕ, Bool, true, false, List, [], ◌∷◌, ◌++◌, Option, Some, None, ◌||◌, codes, if◌then◌else◌}
 use Rattle.std.specs.Option.{is_some, option_map}
 use Rattle.std.specs.List.{list_any}
@@ -15,7 +15,7 @@ use Rattle.nesl_syntax_tree.specs.Trees.{TypeTree, TypeShape, PatternTree, Patte
 use Rattle.nesl_syntax_tree.specs.Trees.{written, pattern, node, none, more, no_binders, binder}
 use Rattle.nesl_syntax_tree.specs.Trees as trees
 
--- what a name before `(` refers to: the function in whose body it stands, a built-in function, a function of the top
+-- what a name before `(` refers to: the function whose body it is in, a built-in function, a function of the top
 -- level with its type, or a datatype with its tag and what its records hold
 pub data Referent : Type 0 where
   itself : Referent
@@ -51,7 +51,7 @@ abbrev pub built_in_or : Option Builtin → Option Referent → Option Referent
 built_in_or (Some b) r = Some (built_in b)
 built_in_or None r = r
 
--- the name of the function in whose body an expression stands, if it stands in one
+-- the name of the function whose body an expression is in, if it is in one
 abbrev pub OwnName : Type 0
 OwnName = Option (List ℕ)
 
@@ -64,15 +64,15 @@ abbrev pub hides : OwnName → List ℕ → Bool
 hides None x = false
 hides (Some own) x = bytes_eq x own || bytes_eq x (codes "it")
 
--- what the variables are where an expression stands, by what they are at the top level
+-- what the variables are where an expression is, by what they are at the top level
 abbrev pub visible : (List ℕ → Option Term) → OwnName → List ℕ → Option Term
 visible variables own x = if hides own x then None else variables x
 
--- what may stand before `(`, by what functions and datatypes the top level has
+-- what may come before `(`, by what functions and datatypes the top level has
 abbrev pub callable : (List ℕ → Option Referent) → OwnName → List ℕ → Option Referent
 callable functions own x = if is_own own x then Some itself else built_in_or (builtin_named x) (functions x)
 
--- what names refer to where an expression stands, by what the top level has
+-- what names refer to where an expression is, by what the top level has
 abbrev pub names_from :
     (List ℕ → Option Term) → (List ℕ → Option Referent) → (List ℕ → Option (ℕ × Term)) → OwnName → Names
 names_from variables functions datatypes own = record {
@@ -100,7 +100,7 @@ abbrev pub span_unless_known : Bool → Span → List Span
 span_unless_known true s = []
 span_unless_known false s = s ∷ []
 
--- the names of a written type that are no datatypes, each where its token stands
+-- the names of a written type that are no datatypes, each where its token is
 abbrev mutual
   pub unknown_types : (List ℕ → Option (ℕ × Term)) → TypeTree → List Span
   unknown_types ds (written s k) = unknown_types_in ds k

@@ -22,7 +22,7 @@ unknown_in_line ns (evaluate e) = unknown_names ns [] e
 unknown_in_line ns (show_type e) = unknown_names ns [] e
 unknown_in_line ns other = []
 
--- it is listed as it stands in the text, so the first of the list is the first in the line
+-- it is listed in the order of the text, so the first of the list is the first in the line
 abbrev pub UnknownInOrder : Type 0
 UnknownInOrder =
     (line : List ℕ) (ts : List Placed) (l : FormTree) (ns : Names) → HasTokens line ts → IsForm ts l →

@@ -8,7 +8,7 @@ use nesl_builtins::named;
 use nesl_types::{Context, Top};
 
 /// Whether a variable node with the name, which is no local one, refers to something. `own` is the name of the
-/// function whose body it stands in.
+/// function whose body it is in.
 pub fn is_variable<P: Drop>(context: &Context<P>, own: &Option<Vec<u8>>, name: &[u8]) -> bool
     ensures { result ≡ is_some ((names_in context.now (option_map (λ v. v.items) own.now)).variables name.now) }
 {

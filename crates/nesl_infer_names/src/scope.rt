@@ -1,4 +1,4 @@
-//! The local names where an expression stands.
+//! The local names where an expression is.
 
 ghost use Rattle.std.specs.Prelude.{◌≡◌, ◌≤◌, ◌∷◌, ◌-◌, [], ℕ, List, drop, length, OnOk};
 ghost use Rattle.std.specs.List.{list_any};

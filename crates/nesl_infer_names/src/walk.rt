@@ -20,7 +20,7 @@ use nesl_syntax_tree::tree::{Binding, Exp, Node};
 use nesl_types::Context;
 use std::alloc::{AllocError, Global};
 
-/// What each part of a walk is given. `own` is the name of the function whose body the parts stand in.
+/// What each part of a walk is given. `own` is the name of the function whose body the parts are in.
 #[derive(Drop)]
 pub struct Setting<'a, P> {
     pub alloc: Global,

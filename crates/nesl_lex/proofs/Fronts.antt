@@ -50,7 +50,7 @@ stopped_more : (p : ℕ → Bool) (b : ℕ) (bs : List ℕ) (r : Bool) → p b �
 stopped_more p b bs true k h f = f (omega arith)
 stopped_more p b bs false k h f = k
 
--- the byte behind a run
+-- the byte after a run
 pub stopped_at : (p : ℕ → Bool) (bs : List ℕ) → front_len p bs < length bs → p (get_or bs (front_len p bs) 0) ≡ false
 stopped_at p [] h = absurd (omega arith)
 stopped_at p (b ∷ bs) h = stopped_more p b bs (p b) refl h (stopped_at p bs)

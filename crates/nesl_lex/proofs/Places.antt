@@ -1,4 +1,4 @@
--- Where the tokens of a line stand.
+-- Where the tokens of a line are.
 use Rattle.std.proofs.Common.{◌≡◌, ℕ, ◌+◌, ◌-◌, ◌≤◌, List, [], ◌++◌, length, length-append, append_assoc, take, drop, refl, ap, sym, subst, ◌∙◌, arith}
 use Rattle.std.proofs.Math.Seq.{take-append_seam, drop-append_seam}
 use Rattle.std.proofs.lemmas.List.Elements.{All-from_recursion}
@@ -15,7 +15,7 @@ from_place k h (more_left a b r) = more_left (omega arith) b r
 to_place : {i j : ℕ} {ts : List Placed} (k : ℕ) → j ≡ k → InOrder i ts j → InOrder i ts k
 to_place {i = i} {ts = ts} k h r = subst (λ (m : ℕ). InOrder i ts m) h r
 
--- what is read stands where the bytes do
+-- what is read is where the bytes are
 in_order_by : {at : ℕ} {bytes : List ℕ} {ts : List Placed} {e : Ending} → Reads at bytes ts e → InOrder at ts (at + length bytes)
 in_order_by finished = none_left (omega arith)
 in_order_by (halted s) = none_left (omega arith)

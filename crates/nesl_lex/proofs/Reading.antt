@@ -26,7 +26,7 @@ found_symbol : (bytes : List ℕ) → 0 < length bytes → start_of (get_or byte
 found_symbol bytes h k (Some s) e = symbol_text bytes h s e
 found_symbol bytes h k None e = symbol_stuck bytes h k e
 
--- it stands there
+-- what is found is there
 stands : (k : Start) (bytes : List ℕ) → 0 < length bytes → start_of (get_or bytes 0 0) ≡ k → FoundAt bytes (found_as k bytes (drop 1 bytes))
 stands start.Blank bytes h k = blank_gap bytes h k
 stands start.Comment bytes h k = either bytes (gap (front_len is_comment_byte (drop 1 bytes) + 2)) (ltb (front_len is_comment_byte (drop 1 bytes)) (length (drop 1 bytes))) (λ t. comment_gap bytes h k (grind (arith, nat_tests))) (λ f. comment_stuck bytes h k (grind (arith, nat_tests)))
@@ -66,7 +66,7 @@ no_bytes : (at : ℕ) (bytes : List ℕ) → length bytes ≤ 0 → Reads at byt
 no_bytes at [] h = finished
 no_bytes at (b ∷ bs) h = absurd (omega arith)
 
--- the reading of so many bytes at most is one
+-- the computed reading of at most `most` bytes is a reading of them
 is_reading : (most at : ℕ) (bytes : List ℕ) → length bytes ≤ most → IsReading at bytes (reading_from most at bytes)
 is_reading zero at bytes h = no_bytes at bytes h
 is_reading (suc most) at [] h = finished
@@ -77,7 +77,7 @@ ended : (line : List ℕ) (ts : List Placed) (e : Ending) → Reads 0 line ts e 
 ended line ts whole r = inl (ts, r)
 ended line ts (halted_at at) r = inr (at, (ts, r))
 
--- the computed reading is one
+-- the computed reading is a reading of the line
 pub reading_computes : (line : List ℕ) → Reads 0 line (reading_of line).tokens (reading_of line).ending
 reading_computes line = is_reading (length line) 0 line (omega arith)
 

@@ -1,4 +1,4 @@
--- Which texts stand at the front of some bytes, and which are the longest.
+-- Which texts are at the front of some bytes, and which are the longest.
 use Rattle.std.proofs.Common.{◌≡◌, ◌≢◌, ℕ, suc, ◌^◌, ◌≤◌, ◌<◌, true, List, [], ◌∷◌, ◌++◌, length, length-append, append_assoc, get_or, None, inl, inr, refl, ap, sym, subst, ◌∙◌, arith}
 use Rattle.nesl_lex.specs.declared.token.Sign.{Sign}
 use Rattle.nesl_lex.specs.declared.scan.Start.{Start}
@@ -152,7 +152,7 @@ character_longest c rest = λ f back h x.
     let y = form_of f x in
     character_le c rest f back (sym h) y (begins_at f back 96 (c ∷ rest) (sym h) y)
 
--- behind the first quote
+-- after the first quote
 inside_of : (text back bs inside : List ℕ) → text ++ back ≡ 34 ∷ bs → text ≡ 34 ∷ (inside ++ 34 ∷ []) → inside ++ 34 ∷ back ≡ bs
 inside_of text back bs inside h k =
     let e : 34 ∷ ((inside ++ 34 ∷ []) ++ back) ≡ 34 ∷ bs = ap (λ (us : List ℕ). us ++ back) (sym k) ∙ h in
@@ -243,7 +243,7 @@ character_ends bs text back (character c) h s e =
 character_ends bs text back (quoted inside) h s e = let f : start_of 96 ≡ start.Text = begins_at text back 96 bs h (of_quoted inside s.0 s.1) in cc
 character_ends bs text back (symbol g) h s e = let f : start_of 96 ≡ start.Other = begins_at text back 96 bs h (of_sign g s) in cc
 
--- a backquote with no byte 32 to 126 behind it
+-- a backquote with no byte 32 to 126 after it
 pub no_character : (bs : List ℕ) → (1 ≤ length bs → is_printable (get_or bs 0 0) ≡ true → ⊥) → HasNoToken (96 ∷ bs)
 no_character bs n = stuck_at 96 bs start.Character refl (λ k. cc) (λ k. cc) (λ text back x h t u.
     let q = character_ends bs text back x (sym h) t refl in n q.0 q.1)

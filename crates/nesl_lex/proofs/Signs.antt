@@ -58,7 +58,7 @@ start_from : (s : Sign) → SignBytes s → (back : List ℕ) (b : ℕ) (bs : Li
 start_from s (one c t k r) back b bs h = let f : c ∷ back ≡ b ∷ bs = ap (λ (us : List ℕ). us ++ back) (sym t) ∙ h in let e : c ≡ b = cc in subst (λ (x : ℕ). start_of x ≡ start.Other) e k
 start_from s (two c d t k r) back b bs h = let f : c ∷ d ∷ back ≡ b ∷ bs = ap (λ (us : List ℕ). us ++ back) (sym t) ∙ h in let e : c ≡ b = cc in subst (λ (x : ℕ). start_of x ≡ start.Other) e k
 
--- a sign's first byte begins nothing else
+-- a sign's first byte begins only signs
 pub sign_start : (s : Sign) (back : List ℕ) (b : ℕ) (bs : List ℕ) → sign_text s ++ back ≡ b ∷ bs → start_of b ≡ start.Other
 sign_start s = start_from s (bytes_of s)
 
@@ -81,7 +81,7 @@ fronts_from s (two c d t k r) back b bs h =
 pub fronts_of : (s : Sign) (back : List ℕ) (b : ℕ) (bs : List ℕ) → sign_text s ++ back ≡ b ∷ bs → Fronts s b bs
 fronts_of s = fronts_from s (bytes_of s)
 
--- the sign that is read stands at the front, and no longer one
+-- the sign that is read is at the front, and no longer one is
 pub record SignFront (bytes : List ℕ) (s : Sign) : Type 0 where
   pub rest : List ℕ
   pub whole : bytes ≡ sign_text s ++ rest
@@ -133,7 +133,7 @@ none_either : (b c : ℕ) (cs : List ℕ) (s : Sign) (r : Option Sign) → doubl
 none_either b c cs s (Some t) k h f = cc
 none_either b c cs s None k h f = none_single b (c ∷ cs) s h (λ d ds e. let g : c ≡ d = cc in subst (λ (x : ℕ). double b x ≡ None) g k) f
 
--- where none is read none stands
+-- where no sign is read there is none
 pub sign_none : (b : ℕ) (bs : List ℕ) → sign_in (b ∷ bs) ≡ None → (s : Sign) (back : List ℕ) → sign_text s ++ back ≡ b ∷ bs → ⊥
 sign_none b [] h s back e = none_single b [] s h (λ c cs k. cc) (fronts_of s back b [] e)
 sign_none b (c ∷ cs) h s back e = none_either b c cs s (double b c) refl h (fronts_of s back b (c ∷ cs) e)

@@ -10,7 +10,7 @@ use Rattle.nesl_lex.specs.Progress.{Progress}
 use Rattle.nesl_lex.proofs.Pieces.{from_of}
 use Rattle.nesl_lex.proofs.Unique.{one_reading}
 
--- behind a front of what is left
+-- after a front of what is left
 left_behind : (line : List ℕ) (at n : ℕ) (front rest : List ℕ) → take (length line - at) (drop at line) ≡ front ++ rest → length front ≡ n → drop (at + n) line ≡ rest
 left_behind line at n front rest h k =
     let e : drop at line ≡ front ++ rest = sym (from_of at line) ∙ h in

@@ -62,7 +62,7 @@ named_from small (Some w) v h k = word_found all_words small w h
 named_from small None (Some v) h k = truth_read small v k
 named_from small None None h k = (refl, word_none small h, λ value t. let e = truth_named small value t in let f : named_in small ≡ name small = rw (h, k) refl in cc)
 
--- what the code has found they are
+-- small letters are what the code found them to be
 pub word_spelled : (small bytes : List ℕ) (found : Option Word) (w : Word) → bytes ≡ small → found ≡ word_in bytes → found ≡ Some w → small ≡ word_text w
 word_spelled small bytes found w h k e = sym h ∙ word_found all_words bytes w (sym k ∙ e)
 
@@ -73,7 +73,7 @@ pub name_spelled : (small bytes text : List ℕ) (word : Option Word) (value : O
 name_spelled small bytes text (Some w) value h k n g l f = absurd (n w refl)
 name_spelled small bytes text None value h k n g l f = named_from small None None (ap word_in (sym h) ∙ sym k) (ap truth_in (sym g) ∙ sym l ∙ f)
 
--- a word stands in small letters
+-- the text of a word is in small letters
 word_small : (w : Word) → map small_letter (word_text w) ≡ word_text w
 word_small word.Function = refl
 word_small word.Datatype = refl
@@ -94,7 +94,7 @@ word_small word.Char = refl
 pub word_as_is : (text : List ℕ) (found : Option Word) (w : Word) → found ≡ word_in text → found ≡ Some w → map small_letter text ≡ word_text w
 word_as_is text found w k e = ap (map small_letter) (word_found all_words text w (sym k ∙ e)) ∙ word_small w
 
--- the small letters are that
+-- small letters that spell a lexeme are read as it
 pub named_is : (small : List ℕ) → SpellsName small (named_in small)
 named_is small = named_from small (word_in small) (truth_in small) refl refl
 
@@ -110,7 +110,7 @@ name_named small no_word no_truth (character c) h i = absurd i
 name_named small no_word no_truth (quoted bytes) h i = absurd i
 name_named small no_word no_truth (symbol s) h i = absurd i
 
--- they are nothing else
+-- such letters spell no other lexeme
 pub named_one : (small : List ℕ) (x : Lexeme) → SpellsName small x → named_in small ≡ x
 named_one small (number n) i = absurd i
 named_one small (name bytes) i = name_named small i.1 i.2 (named_in small) refl (named_is small) ∙ ap name (sym i.0)

@@ -21,7 +21,7 @@ NotBoth = (line : List ℕ) (ts : List Placed) (at : ℕ) → HasTokens line ts 
 abbrev pub Either : Type 0
 Either = (line : List ℕ) → ((ts : List Placed) × HasTokens line ts) ⊎ ((at : ℕ) × HasNoTokenAt line at)
 
--- a line's tokens stand within it, one behind another
+-- a line's tokens lie within it, one after another
 abbrev pub TokensInOrder : Type 0
 TokensInOrder = (line : List ℕ) (ts : List Placed) → HasTokens line ts → InOrder 0 ts (length line)
 

@@ -46,7 +46,7 @@ abbrev pub AllBytes : (ℕ → Bool) → List ℕ → Type 0
 AllBytes p [] = Unit {0}
 AllBytes p (b ∷ bs) = (p b ≡ true) × AllBytes p bs
 
--- the number that digits behind a value make
+-- the number that digits after a value make
 abbrev pub with_digits : ℕ → List ℕ → ℕ
 with_digits n [] = n
 with_digits n (d ∷ ds) = with_digits (n * 10 + (d - 48)) ds
@@ -131,7 +131,7 @@ Spells text x = IsNameText text × SpellsName (map small_letter text) x
 abbrev pub IsTokenText : List ℕ → Type 0
 IsTokenText text = IsDigits text ⊎ ((x : Lexeme) × Spells text x)
 
--- no longer front of what stands here has a token's shape
+-- no longer front of these bytes has a token's shape
 abbrev pub IsLongest : List ℕ → List ℕ → Type 0
 IsLongest text rest =
     (front back : List ℕ) → text ++ rest ≡ front ++ back → IsTokenText front → length front ≤ length text
@@ -143,19 +143,19 @@ IsGap (b ∷ bs) =
     ((is_blank b ≡ true) × (bs ≡ []))
     ⊎ ((b ≡ 37) × (inside : List ℕ) × (bs ≡ inside ++ 37 ∷ []) × AllBytes is_comment_byte inside)
 
--- no token, blank or whole comment stands at the front of these bytes, and there is a byte
+-- no token, blank or whole comment is at the front of these bytes, and there is a byte
 pub record HasNoToken (bytes : List ℕ) : Type 0 where
   pub byte : bytes ≢ []
   pub no_gap : (gap rest : List ℕ) → bytes ≡ gap ++ rest → IsGap gap → ⊥
   pub no_token : (text rest : List ℕ) (x : Lexeme)
       → bytes ≡ text ++ rest → Spells text x → IsLongest text rest → ⊥
 
--- how a reading ends: at the end of the bytes, or at a place where nothing stands
+-- how a reading ends: at the end of the bytes, or at a place where no token is
 pub data Ending : Type 0 where
   whole : Ending
   halted_at : ℕ → Ending
 
--- a token that stands from this place on, of this length
+-- a token that begins at this place and has this length
 abbrev pub token_from : Lexeme → ℕ → ℕ → Placed
 token_from x at n = record { lexeme = x; span = record { start = at; end = at + n } }
 
@@ -176,6 +176,6 @@ pub data Reads : ℕ → List ℕ → List Placed → Ending → Type 0 where
 abbrev pub HasTokens : List ℕ → List Placed → Type 0
 HasTokens line ts = Reads 0 line ts whole
 
--- the first byte at which no token, blank or whole comment stands
+-- the first byte at which no token, blank or whole comment is
 abbrev pub HasNoTokenAt : List ℕ → ℕ → Type 0
 HasNoTokenAt line at = (ts : List Placed) × Reads 0 line ts (halted_at at)

@@ -22,12 +22,12 @@ abbrev pub word_among : List Word → List ℕ → Option Word
 word_among [] small = None
 word_among (w ∷ ws) small = if bytes_eq small (word_text w) then Some w else word_among ws small
 
--- those of these words that have so many letters
+-- those of these words that have `n` letters
 abbrev pub with_letters : ℕ → List Word → List Word
 with_letters n [] = []
 with_letters n (w ∷ ws) = if n == length (word_text w) then w ∷ with_letters n ws else with_letters n ws
 
--- the reserved words of so many letters
+-- the reserved words of `n` letters
 abbrev pub words_of : ℕ → List Word
 words_of n = with_letters n all_words
 
@@ -50,13 +50,13 @@ named_by small None None = name small
 abbrev pub named_in : List ℕ → Lexeme
 named_in small = named_by small (word_in small) (truth_in small)
 
--- what stands at the front of some bytes: a gap of so many bytes, a token of so many, or nothing
+-- what is at the front of some bytes: a gap or a token, with the number of its bytes, or nothing
 pub data Found : Type 0 where
   gap : (count : ℕ) → Found
   token : (count : ℕ) → Lexeme → Found
   no_piece : Found
 
--- a number of so many digits, if it is one
+-- a number of `count` digits, if it is below 2^63
 abbrev pub number_found : ℕ → ℕ → Found
 number_found count value = if nat_lt value (2 ^ 63) then token count (number value) else no_piece
 
@@ -64,25 +64,25 @@ abbrev pub sign_found : Option Sign → Found
 sign_found (Some s) = token (length (sign_text s)) (symbol s)
 sign_found None = no_piece
 
--- a character, where a printable byte is behind the backquote
+-- a character, where a printable byte follows the backquote
 abbrev pub character_found : List ℕ → Found
 character_found bytes =
     if nat_lt 1 (length bytes) && is_printable (slice_index bytes 1)
     then token 2 (character (slice_index bytes 1))
     else no_piece
 
--- a comment of so many bytes before the end, and what is behind its first byte
+-- a comment with `count` bytes between its marks, by the bytes after its first one
 abbrev pub comment_found : ℕ → List ℕ → Found
 comment_found count rest = if nat_lt count (length rest) then gap (count + 2) else no_piece
 
--- a text of so many bytes, and what is behind its first quote
+-- a text with `count` bytes before its second quote, by the bytes after its first one
 abbrev pub text_found : ℕ → List ℕ → Found
 text_found count rest =
     if nat_lt count (length rest) && (slice_index rest count == 34)
     then token (count + 2) (quoted (take count rest))
     else no_piece
 
--- bytes that begin so, and what is behind the first
+-- what is found in bytes that begin so, by those after the first
 abbrev pub found_as : Start → List ℕ → List ℕ → Found
 found_as start.Blank bytes rest = gap 1
 found_as start.Comment bytes rest = comment_found (front_len is_comment_byte rest) rest
@@ -105,13 +105,13 @@ pub record Reading : Type 0 where
 abbrev pub with_token : Placed → Reading → Reading
 with_token t r = record { tokens = t ∷ r.tokens; ending = r.ending }
 
--- what was found here, and the reading behind so many bytes
+-- what was found here, and the reading after its bytes
 abbrev pub reading_behind : ℕ → Found → (ℕ → Reading) → Reading
 reading_behind at (gap n) behind = behind n
 reading_behind at (token n x) behind = with_token (token_from x at n) (behind n)
 reading_behind at no_piece behind = record { tokens = []; ending = halted_at at }
 
--- the reading of so many bytes at most, which stand here
+-- the reading of these bytes, which begin at `at`, in at most this number of turns
 abbrev pub reading_from : ℕ → ℕ → List ℕ → Reading
 reading_from zero at bytes = record { tokens = []; ending = whole }
 reading_from (suc most) at [] = record { tokens = []; ending = whole }

@@ -1,4 +1,4 @@
--- What stands at the front of some bytes.
+-- What is at the front of some bytes.
 use Rattle.std.specs.Prelude.{◌≡◌, ℕ, suc, Bool, false, ◌==◌, ◌&&◌, if◌then◌else◌, List, [], ◌∷◌, ◌++◌, length, Option}
 use Rattle.std.specs.Prelude.{Some, None}
 use Rattle.nesl_lex.specs.declared.token.Sign.{Sign}
@@ -50,7 +50,7 @@ pub record TextAt (bytes : List ℕ) (n : ℕ) (x : Lexeme) : Type 0 where
   pub spells : Spells text x
   pub longest : IsLongest text rest
 
--- what was found at the front stands there
+-- what was found is at the front
 abbrev pub PieceStands : List ℕ → Piece → Type 0
 PieceStands bytes (Gap n) = GapAt bytes n
 PieceStands bytes (Token n kind) = TextAt bytes n (lexeme_of kind)

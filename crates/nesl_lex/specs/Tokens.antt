@@ -18,7 +18,7 @@ pub data Lexeme : Type 0 where
   quoted : List ℕ → Lexeme
   symbol : Sign → Lexeme
 
--- a token and where it stands
+-- a token and where it is
 pub record Placed : Type 0 where
   pub lexeme : Lexeme
   pub span : Span

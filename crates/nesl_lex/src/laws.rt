@@ -15,7 +15,7 @@ pub fn one_reading()
     ensures either { Either }
 {}
 
-/// A line's tokens stand within it one behind another, and the bytes of each one's span are its text.
+/// A line's tokens lie within it, one after another, and the bytes of each one's span are its text.
 pub fn tokens_in_order()
     ensures in_order { TokensInOrder }
     ensures stand_in { TokensStandIn }

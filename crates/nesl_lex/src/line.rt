@@ -22,7 +22,7 @@ pub fn lex(alloc: Global, line: &[u8]) -> Result<Vec<Token>, LexFault>
     ensures found { IfOk result (λ v. HasTokens line.now (placed v.items)) }
     ensures only { IfOk result (λ v. (others : List Placed) → HasTokens line.now others → others ≡ placed v.items) }
 
-    // At this byte no token, blank or whole comment stands, and the line has no tokens.
+    // At this byte no token, blank or whole comment is, and the line has no tokens.
     ensures stuck { OnLexical result (λ at. HasNoTokenAt line.now at) }
     ensures none { OnLexical result (λ at. (others : List Placed) → HasTokens line.now others → ⊥) }
 {

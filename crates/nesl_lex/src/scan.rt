@@ -1,4 +1,4 @@
-// What stands at the front of some bytes.
+// What is at the front of some bytes.
 
 ghost use Rattle.std.specs.Prelude.{◌≡◌, ◌≢◌, ◌≤◌, ◌<◌, ◌^◌, ◌+◌, ◌-◌, ◌*◌, ◌==◌, ◌↔◌, IsTrue, IfOk, IfSome, IfNone};
 ghost use Rattle.std.specs.Prelude.{length, map, slice_index};
@@ -26,7 +26,7 @@ pub enum Start {
     Other,
 }
 
-/// A kind of byte that stands in a row.
+/// A kind of byte that comes in runs.
 #[derive(Clone, Copy)]
 pub enum ByteClass {
     Digit,
@@ -37,7 +37,7 @@ pub enum ByteClass {
     Text,
 }
 
-/// What stands at the front, and how many bytes it takes.
+/// What is at the front, and how many bytes it takes.
 #[derive(Drop)]
 pub enum Piece {
     /// A blank or a comment.
@@ -220,7 +220,7 @@ fn word_of_eight(bytes: &[u8]) -> Option<Word>
     }
 }
 
-// The reserved word of these bytes. Few names have as many bytes as one, which is told in place.
+// The reserved word of these bytes. Few names have as many bytes as a word; that test is inlined.
 #[inline(always)]
 fn word(bytes: &[u8]) -> Option<Word>
     ensures { result ≡ word_in bytes.now }
@@ -427,7 +427,7 @@ fn symbol(bytes: &[u8]) -> Piece
     }
 }
 
-/// What stands at the front.
+/// What is at the front.
 pub fn next_piece(alloc: Global, bytes: &[u8]) -> Result<Piece, AllocError>
     requires { 0 < length bytes.now }
     ensures { IfOk result (λ piece. PieceStands bytes.now piece) }

@@ -89,7 +89,7 @@ pub enum Sign {
     Hash,
 }
 
-/// A name. One of at most 16 bytes stands in the value itself, and a longer one takes memory of its own.
+/// A name. One of at most 16 bytes is kept in the value itself, and a longer one takes memory of its own.
 #[derive(PartialEq, Eq, Debug)]
 pub struct Name {
     pub letters: SmallVec<u8, 16>,
@@ -139,7 +139,7 @@ pub enum Kind {
     Symbol(Sign),
 }
 
-/// A token, and where it stands in its line.
+/// A token, and where it is in its line.
 #[derive(PartialEq, Eq, Debug)]
 pub struct Token {
     pub kind: Kind,

@@ -1,4 +1,4 @@
--- What a function has for its argument, and what a call tells of it.
+-- What a function has for its argument, and what a call returns for it.
 use Rattle.std.specs.Prelude.{◌≡◌, ◌⊎◌, Result, Ok, Err}
 use Rattle.nesl_values.specs.Tree.{ValueTree}
 use Rattle.nesl_values.specs.View.{tree_of}
@@ -11,7 +11,7 @@ pub data Outcome : Type 0 where
   traps : Trap → Outcome
   undefined : Outcome
 
--- the answer of a call: some trap where the function isn't defined
+-- the result of a call: some trap where the function isn't defined
 abbrev pub ResultIsOutcome : {A : Type 0} → Result (Value A) Trap → Outcome → Type 0
 ResultIsOutcome (Ok v) o = o ≡ gives (tree_of v)
 ResultIsOutcome (Err t) o = (o ≡ traps t) ⊎ (o ≡ undefined)

@@ -41,7 +41,7 @@ pub enum Binary {
 
 impl Binary {
     /// What the function has for the arguments: a leaf, which takes no memory. Arguments that aren't of the
-    /// function's type are answered by some refusal.
+    /// function's type are refused with some trap.
     pub fn apply<A: Allocator, B: Allocator, C: Allocator>(
         self,
         left: &Value<A>,

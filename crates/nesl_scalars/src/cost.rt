@@ -5,7 +5,7 @@ ghost use Rattle.std.specs.Prelude.{◌≡◌, ◌+◌, ◌<◌, ◌^◌, max};
 /// What an evaluation costs, counted as in Blelloch's *Programming Parallel Algorithms* (CACM 39(3), 1996).
 #[derive(Clone, Copy, PartialEq, Eq)]
 pub struct Cost {
-    /// All steps, whoever takes them.
+    /// All steps, whichever thread takes them.
     pub work: u64,
     /// The longest chain of steps of which each waits for the one before.
     pub depth: u64,

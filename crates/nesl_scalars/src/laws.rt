@@ -4,7 +4,7 @@ ghost use Rattle.nesl_scalars.specs.Laws.{QuotientAndRemainder, SignOfRemainder,
 ghost use Rattle.nesl_scalars.specs.Laws.{LeastByMinusOne, SevenByTwo, ByZero, Shifts, RootOfGreatest, Complement};
 ghost use Rattle.nesl_scalars.specs.Laws.{Mixed};
 
-/// Quotients, remainders and roots are what the words say.
+/// Quotients, remainders and roots are what these words mean.
 pub fn whole_numbers()
     ensures quotient_and_remainder { QuotientAndRemainder }
     ensures sign_of_remainder { SignOfRemainder }

@@ -32,7 +32,7 @@ pub enum Unary {
 
 impl Unary {
     /// What the function has for the argument: a leaf, which takes no memory. An argument that isn't of the
-    /// function's type is answered by some refusal.
+    /// function's type is refused with some trap.
     pub fn apply<A: Allocator, B: Allocator>(self, argument: &Value<A>) -> Result<Value<B>, Trap>
         ensures { ResultIsOutcome result (unary self (tree_of argument.now)) }
     {

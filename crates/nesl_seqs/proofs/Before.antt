@@ -1,4 +1,4 @@
--- Loops that push what is told of the elements before each.
+-- Loops that push what is computed from the elements before each.
 use Rattle.std.proofs.Common.{◌≡◌, ℕ, ◌+◌, ◌<◌, ◌≤◌, ℤ, pos, negsuc, neg_ℤ, ◌+ℤ◌, ◌≤ℤ◌, ◌<ℤ◌, ◌^◌, Bool, true, false, ◌||◌, ◌&&◌, List, [], ◌∷◌, ◌++◌, length, map, take, get_or, refl, ap, sym, ◌∙◌, arith, w64, FitsSigned}
 use Rattle.std.specs.List.{list_any, list_all, range_with_len}
 use Rattle.std.specs.Int.{int_wrap}
@@ -25,7 +25,7 @@ read_more g f is k i h at =
     take-map g (k + 1) (map f is) ∙ ap (map g) (take-map f (k + 1) is ∙ ap (map f) one ∙ map-append f (take k is) (i ∷ []))
     ∙ map-append g (map f (take k is)) (f i ∷ []) ∙ ap (λ xs. xs ++ g (f i) ∷ []) (sym (take-map g k (map f is) ∙ ap (map g) (take-map f k is)))
 
--- what is told of the elements before each of the first k places
+-- what is computed from the elements before each of the first k places
 abbrev pub first_told : {X Y : Type 0} → (List X → Y) → List X → ℕ → List Y
 first_told f xs k = map (λ j. f (take j xs)) (range_with_len 0 k)
 

@@ -1,4 +1,4 @@
--- What lent values of fewer than 2^64 nodes come to.
+-- What functions evaluate to on lent values of fewer than 2^64 nodes.
 use Rattle.std.proofs.Common.{◌^◌, ◌<◌, arith}
 use Rattle.nesl_values.specs.Tree.{size}
 use Rattle.nesl_seqs_base.specs.Lent.{argument_tree}

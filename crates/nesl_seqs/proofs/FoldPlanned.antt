@@ -1,4 +1,4 @@
--- What plans come to.
+-- What plans build, and for which price.
 use Rattle.std.proofs.Common.{◌≡◌, ℕ, ◌+◌, ◌-◌, ◌≤◌, SomeIff, subst, ℤ, Bool, true, false, nat_eq, cond, List, [], ◌∷◌, length, map, Option, Some, None, option_map, unwrap_or, is_some, refl, ap, sym, ◌∙◌}
 use Rattle.std.specs.Bool.{then_some}
 use Rattle.std.proofs.lemmas.Simd.{map-map}

@@ -7,7 +7,7 @@ use Rattle.std.proofs.lemmas.List.Sums.{sum_by-cons}
 use Rattle.nesl_values.specs.Tree.{ValueTree}
 use Rattle.nesl_seqs_base.specs.Reductions.{all_of, total}
 
--- what the loop comes to from a state on
+-- what the loop evaluates to from a state on
 abbrev pub folded : {S X : Type 0} → (S → X → S) → (ValueTree → Option X) → S → List ValueTree → Option S
 folded step read s [] = Some s
 folded step read s (t ∷ ts) = option_and_then (λ x. folded step read (step s x) ts) (read t)

@@ -1,4 +1,4 @@
--- What the functions come to, from what the words of their definitions come to.
+-- What the functions evaluate to, by what the words of their definitions mean.
 use Rattle.std.proofs.Common.{◌≡◌, ◌⊎◌, inl, inr, ℕ, ℤ, pos, negsuc, ◌+◌, ◌-◌, ◌≤◌, Bool, true, false, ◌||◌, cond, nat_eq, nat_le, List, [], ◌∷◌, ◌++◌, length, map, zip, take, drop, refl, ap, sym, subst, ◌∙◌, arith, Some, option_map, slice_get}
 use Rattle.std.specs.Prelude.{unsigned_abs, ◌≤ℤ◌, ◌<ℤ◌}
 use Rattle.std.proofs.lemmas.Int.{ints}

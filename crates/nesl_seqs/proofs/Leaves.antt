@@ -1,4 +1,4 @@
--- How many leaves a scan comes to.
+-- How many leaves a scan evaluates to.
 use Rattle.std.proofs.Common.{◌≡◌, suc, ◌+◌, List, [], ◌∷◌, length, map, take, Option, Some, None, option_map, option_and_then, refl, ap, sym, ◌∙◌, arith}
 use Rattle.std.proofs.lemmas.List.FromFn.{length-map-range_with_len}
 use Rattle.nesl_values.specs.Tree.{ValueTree, size, sizes, trees_of, sequence}

@@ -51,7 +51,7 @@ sizes_elements ts (k ∷ ks) = one_more (slice_get ts k) (elements_at ts ks) (le
     one_more None us n le h e = omega (arith, h)
     one_more (Some t) us n le h e = omega (arith, h, le t e)
 
--- so many copies of so much fit, where both together are below 2^65
+-- the product fits, where the two together are below 2^65
 within_square : (m s : ℕ) → m + s ≤ 2 * (2 ^ 64 - 2) → m * s ≤ (2 ^ 64 - 2) * (2 ^ 64 - 2)
 within_square m s h = by_order (nat_le m (2 ^ 64 - 2)) refl
   where

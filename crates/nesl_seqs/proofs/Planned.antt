@@ -23,7 +23,7 @@ use Rattle.nesl_seqs.proofs.Depths.{depth_fits}
 pub plan_given : {A : Type 0} (o : Outcome) (read depth : ℕ) (p : Plan A) → Plans o read depth (Ok p) → IsGiven o
 plan_given o read depth p h = subst IsGiven (sym h.0) tt
 
--- what is told of the price of a plan
+-- what is returned as the price of a plan
 abbrev pub IsTold : {A : Type 0} → Plan A → ℕ → Option Price → Type 0
 IsTold p limit r = SomeIff r (1 + read_by p + (size (built p) - 1) ≤ limit) (price (read_by p) (depth_by p) (built p))
 

@@ -1,4 +1,4 @@
--- Each element stands where its index says.
+-- Each element is where its index says.
 use Rattle.std.proofs.Common.{◌≡◌, ℕ, ℤ, zero, suc, pos, negsuc, ◌<◌, Bool, true, false, not, ◌||◌, ◌&&◌, cond, nat_eq, nat_lt, List, [], ◌∷◌, length, zip, refl, ap, sym, subst, ◌∙◌, arith, Option, Some, None, is_some, option_and_then, slice_get}
 use Rattle.std.specs.List.{list_any, list_all, filter_map, cons_option, range_with_len}
 use Rattle.std.proofs.Math.Bool.{or-true}
@@ -99,7 +99,7 @@ named_place n k h = by_test (nat_lt k n) h
     by_test true e = refl
     by_test false e = absurd (false≢true e)
 
--- each element stands where its index says, in what `permute` gives
+-- each element is where its index says, in what `permute` gives
 pub stands_where_told : (ts us vs : List ValueTree) (j k : ℕ) (t : ValueTree) → if_there (all_of as_int us) (permuted ts) ≡ gives (sequence vs) → slice_get us j ≡ Some (int (pos k)) → slice_get ts j ≡ Some t → slice_get vs k ≡ Some t
 stands_where_told ts us vs j k t is at there =
     let there_is : IsGiven (if_there (all_of as_int us) (permuted ts)) = subst IsGiven (sym is) tt in

@@ -1,4 +1,4 @@
--- What a plan comes to.
+-- What a plan builds, and for which price.
 use Rattle.std.specs.Prelude.{◌≡◌, ℕ, ◌+◌, length, map, Result, Ok, Err}
 use Rattle.nesl_scalars.specs.declared.trap.Trap.{Trap}
 use Rattle.nesl_values.specs.Tree.{ValueTree, int, boolean, sequence, size}

@@ -1,4 +1,4 @@
--- What the functions come to, in other words.
+-- What the functions evaluate to, in other words.
 use Rattle.std.specs.Prelude.{◌≡◌, ◌↔◌, ℕ, ◌+◌, ◌-◌, ◌*◌, ◌^◌, ◌<◌, ◌≤◌, ℤ, pos, ◌+ℤ◌, ◌<ℤ◌, ◌≤ℤ◌, true}
 use Rattle.std.specs.Prelude.{Some, None, List, ◌++◌, length, map, slice_get, unsigned_abs}
 use Rattle.std.specs.Int.{int_rem_euclid}
@@ -40,7 +40,7 @@ EveryOther = (ts us vs : List ValueTree) (j : ℕ) → outcome_of function.EvenE
     → outcome_of function.OddElts (sequence ts) ≡ gives (sequence vs)
     → (slice_get us j ≡ slice_get ts (2 * j)) × (slice_get vs j ≡ slice_get ts (2 * j + 1))
 
--- what `interleave` weaves stands at the even places and at the odd ones
+-- what `interleave` weaves is at the even places and at the odd ones
 abbrev pub Woven : Type 0
 Woven = (ts us : List ValueTree) (v : ValueTree)
     → outcome_of function.Interleave (pair (sequence ts) (sequence us)) ≡ gives v
@@ -64,7 +64,7 @@ PlacesOfPermute = (ts us vs : List ValueTree) (j k : ℕ) (t : ValueTree)
     → outcome_of function.Permute (pair (sequence ts) (sequence us)) ≡ gives (sequence vs)
     → slice_get us j ≡ Some (int (pos k)) → slice_get ts j ≡ Some t → slice_get vs k ≡ Some t
 
--- `eql` tells whether two trees are the same
+-- `eql` decides whether two trees are the same
 abbrev pub ToldEqual : Type 0
 ToldEqual = (t u : ValueTree) → (outcome_of function.Eql (pair t u) ≡ gives (boolean true)) ↔ (t ≡ u)
 

@@ -11,7 +11,7 @@ scalar_tree (Int n) = int n
 scalar_tree (Bool b) = boolean b
 scalar_tree (Char c) = character c
 
--- what was found tells the outcome, or the fault is it, or it is undefined and there is some fault
+-- what was found is the outcome, or the fault is it, or it is undefined and there is some fault
 abbrev pub ResultIs : {X : Type 0} → (X → ValueTree) → Outcome → Result X Trap → Type 0
 ResultIs f o (Ok x) = o ≡ gives (f x)
 ResultIs f (gives t) (Err e) = ⊥

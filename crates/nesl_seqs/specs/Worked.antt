@@ -17,7 +17,7 @@ ints zs = sequence (map int zs)
 abbrev pub price_of : ℕ → ℕ → ℕ → Price
 price_of work depth nodes = record { work = work; depth = depth; nodes = nodes }
 
--- at t the function comes to u, for that work and depth
+-- at t the function evaluates to u, for that work and depth
 abbrev pub ComesTo : SeqFn → ValueTree → ValueTree → ℕ → ℕ → Type 0
 ComesTo f t u work depth =
     (outcome_of f t ≡ gives u) × (price (reads f t) (depth_of f (reads f t)) u ≡ price_of work depth (size u))
@@ -37,7 +37,7 @@ Pieces = ComesTo function.Partition
     × (outcome_of function.Partition (pair (ints (pos 5 ∷ pos 6 ∷ [])) (ints (pos 1 ∷ []))) ≡ traps trap.Count)
     × (outcome_of function.Partition (pair (ints (pos 5 ∷ [])) (ints (pos 2 ∷ negsuc 0 ∷ []))) ≡ traps trap.Count)
 
--- the last of two that are written at one place wins; a place behind the end
+-- the last of two that are written at one place wins; a place after the end
 abbrev pub Writes : Type 0
 Writes = ComesTo function.Write
     (pair (ints (pos 5 ∷ pos 6 ∷ pos 7 ∷ []))

@@ -45,7 +45,7 @@ pub fn cost_and_size<A: Allocator>(
     }
 }
 
-// What the values know of themselves.
+// A law: no value has 2^64 nodes, since each knows its number.
 fn has_few_nodes<A: Allocator>(argument: Argument<'_, A>)
     ensures { HasFewNodes argument.entry }
 {

@@ -1,4 +1,4 @@
-//! What the definitions come to, in other words, and calls that are worked by hand.
+//! What the definitions evaluate to, in other words, and calls that are worked by hand.
 ghost use Rattle.nesl_seqs.specs.Laws.{PlacesOfRotate, NumbersOfRange, TakenAndDropped, EveryOther, Woven, Zipped, Cut};
 ghost use Rattle.nesl_seqs.specs.Laws.{PlacesOfPermute, ToldEqual, NumberOfDigits};
 ghost use Rattle.nesl_seqs.specs.Worked.{Steps, Pieces, Writes, Permutes, Equals, Sums, Greatest, Turns};
@@ -23,7 +23,7 @@ pub fn takes_every_other()
     ensures { EveryOther }
 {}
 
-/// Two sequences that are woven stand at the even places and at the odd ones.
+/// Two sequences that are woven are at the even places and at the odd ones.
 pub fn weaves()
     ensures { Woven }
 {}
@@ -44,7 +44,7 @@ pub fn tells_places()
     ensures { PlacesOfPermute }
 {}
 
-/// `eql` tells whether two trees are the same.
+/// `eql` decides whether two trees are the same.
 pub fn tells_equality()
     ensures { ToldEqual }
 {}

@@ -1,4 +1,4 @@
-//! What a function on sequences comes to, told before it is built.
+//! What a function on sequences returns, as a plan from which it is priced and then built.
 ghost use Rattle.std.specs.Prelude.{◌≡◌, ⊤, ◌+◌, ◌-◌, ◌≤◌, IfOk, SomeIff};
 ghost use Rattle.nesl_values.specs.Tree.{size};
 ghost use Rattle.nesl_values.specs.View.{tree_of};
@@ -12,7 +12,7 @@ use std::alloc::{AllocError, Allocator, Global};
 /// The result of a function at an argument that has one, as it is to be priced and built.
 #[derive_where(Copy)]
 pub enum Plan<'a, A: Allocator = Global> {
-    /// It is told from the elements.
+    /// It is computed from the elements.
     Fold(crate::fold::plan::Plan<'a, A>),
     /// It is made of parts.
     Build(nesl_seqs_build::plan::Plan<'a, A>),

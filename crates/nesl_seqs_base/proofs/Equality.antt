@@ -1,4 +1,4 @@
--- `tree_eq` tells whether two trees are the same.
+-- `tree_eq` decides whether two trees are the same.
 use Rattle.std.proofs.Common.{Result, Ok, Err, IfOk, ◌≡◌, Bool, true, false, ◌&&◌, ◌↔◌, IsTrue, refl, ap, sym, ◌∙◌}
 use Rattle.std.specs.Prelude.{◌==◌}
 use Rattle.std.proofs.lemmas.Bool.Decides.{Decides-eqb, Decides-int_eq}

@@ -37,12 +37,12 @@ abbrev pub best : Order → List ℤ → Option Best
 best o zs =
     option_and_then (λ i. option_map (element_with i) (slice_get zs i)) (position (λ z. list_all (leads o z) zs) zs)
 
--- what is told of the best, where there is one
+-- what is made of the best, where there is one
 abbrev pub or_empty : {X : Type 0} → (X → ValueTree) → Option X → Outcome
 or_empty f (Some x) = gives (f x)
 or_empty f None = traps Empty
 
--- what is told of the best of numbers, or of characters
+-- what is made of the best of numbers, or of characters
 abbrev pub of_best : Order → (Kind → Best → ValueTree) → ValueTree → Outcome
 of_best o f t =
     if_there_or (option_and_then (all_of (key Numbers)) (as_sequence t)) (λ zs. or_empty (f Numbers) (best o zs))

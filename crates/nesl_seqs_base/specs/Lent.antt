@@ -1,4 +1,4 @@
--- What a lent argument stands for.
+-- The tree that a lent argument is.
 use Rattle.nesl_values.specs.Tree.{ValueTree, pair}
 use Rattle.nesl_values.specs.View.{tree_of}
 use Rattle.nesl_seqs_base.specs.declared.argument.Argument.{Argument}

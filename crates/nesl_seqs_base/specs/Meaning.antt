@@ -1,4 +1,4 @@
--- What each function comes to.
+-- What each function evaluates to.
 use Rattle.std.specs.Prelude.{pos, length}
 use Rattle.nesl_values.specs.Tree.{ValueTree, int, boolean}
 use Rattle.nesl_values.specs.Parts.{as_int, as_pair, as_sequence}

@@ -1,4 +1,4 @@
--- What a function comes to at an argument.
+-- What a function evaluates to at an argument.
 use Rattle.std.specs.Prelude.{◌≡◌, Option, Some, None, Result, Ok, Err}
 use Rattle.nesl_scalars.specs.declared.trap.Trap.{Trap}
 use Rattle.nesl_values.specs.Tree.{ValueTree}
@@ -22,7 +22,7 @@ IsGiven (gives t) = Unit {0}
 IsGiven (traps e) = ⊥
 IsGiven undefined = ⊥
 
--- what an answer says of an outcome: of a tree what R says of both, of a refusal that very fault, and of what is
+-- what a result says of an outcome: of a tree what R says of both, of a refusal that very fault, and of what is
 -- undefined some fault
 abbrev pub OutcomeGives : {X : Type 0} → (ValueTree → X → Type 0) → Outcome → Result X Trap → Type 0
 OutcomeGives R (gives t) (Ok x) = R t x

@@ -1,4 +1,4 @@
--- Scans: what is told of the elements before each.
+-- Scans: what is computed from the elements before each.
 use Rattle.std.specs.Prelude.{ℤ, pos, negsuc, Bool, List, length, map, take, cond, ◌||◌, ◌&&◌}
 use Rattle.std.specs.List.{range_with_len, list_any, list_all, fold}
 use Rattle.std.specs.Int.{w64, int_bit_and, int_bit_or}
@@ -10,7 +10,7 @@ use Rattle.nesl_seqs_base.specs.Reductions.{total}
 use Rattle.nesl_seqs_base.specs.declared.joint.Joint.{Joint}
 use Rattle.nesl_seqs_base.specs.declared.joint.Joint.TheVariants.{Or, And}
 
--- as many as there are elements: the one at place k is what f says of the k elements before
+-- as many as there are elements: the one at place k is what f makes of the k elements before
 abbrev pub before_each : {X Y : Type 0} → (List X → Y) → List X → List Y
 before_each f xs = map (λ k. f (take k xs)) (range_with_len 0 (length xs))
 

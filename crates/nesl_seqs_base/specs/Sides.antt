@@ -22,7 +22,7 @@ unzipped ps = gives (pair (sequence (map (λ p. p.0) ps)) (sequence (map (λ p. 
 abbrev pub sequence_and_truths : ValueTree → Option (List ValueTree × List Bool)
 sequence_and_truths t = option_and_then (λ p. both_parts (as_sequence p.0) (truths p.1)) (as_pair t)
 
--- the elements beside which that truth value stands
+-- the elements that have that truth value beside them
 abbrev pub marked : {X : Type 0} → Bool → List X → List Bool → List X
 marked b xs bs = map (λ p. p.0) (filter (λ p. bool_eq b p.1) (zip xs bs))
 

@@ -9,7 +9,7 @@ use crate::nodes::value_nodes;
 use nesl_values::Value;
 use std::alloc::{AllocError, Allocator, Global};
 
-/// A lent argument: a value, or two or three that stand for `(a, b)` and `(a, (b, c))`.
+/// A lent argument: a value, or two or three that are taken as `(a, b)` and `(a, (b, c))`.
 #[derive_where(Copy)]
 pub enum Argument<'a, A: Allocator = Global> {
     One(&'a Value<A>),
@@ -62,7 +62,7 @@ impl<'a, A: Allocator> Argument<'a, A> {
         }
     }
 
-    /// The nodes of the tree that it stands for.
+    /// The nodes of the tree that it is.
     pub fn nodes(self, limit: u128) -> Option<u128>
         ensures { SomeIff result
             (size (argument_tree self.entry) ≤ limit) (size (argument_tree self.entry)) }
@@ -89,7 +89,7 @@ fn nodes_of_pair<A: Allocator>(one: &Value<A>, other: &Value<A>, limit: u128) ->
     nodes_of_pair_with(one, second, limit)
 }
 
-// The nodes of a pair whose right part has so many.
+// The nodes of a pair whose right part has `right` nodes.
 fn nodes_of_pair_with<A: Allocator>(one: &Value<A>, right: u128, limit: u128) -> Option<u128>
     requires { right ≤ limit }
     ensures { SomeIff result

@@ -11,7 +11,7 @@ use nesl_scalars::Trap;
 use nesl_values::{Items, Value};
 use std::alloc::Allocator;
 
-/// What stands for the fault of an argument of a wrong shape, of which nothing is said.
+/// The fault of an argument of a wrong shape, of which the definitions say nothing.
 pub const WRONG_SHAPE: Trap = Trap::Range;
 
 /// The numbers of `[start:end:step]`.

@@ -65,7 +65,7 @@ fn reversed_values<A: Allocator + Copy>(
     Ok(copies)
 }
 
-/// So many of the same item.
+/// The same item, `count` times.
 pub fn repeated<T: Copy, A: Allocator>(
     alloc: A,
     item: T,

@@ -1,5 +1,5 @@
 //! What the functions on sequences have in common: their names, arguments and prices, the elements of sequences,
-//! and what each function comes to.
+//! and what each function evaluates to.
 #![tactic(auto)]
 
 pub mod argument;

@@ -27,7 +27,7 @@ fn nodes_of_all<A: Allocator>(values: &[Value<A>], limit: u128) -> Option<u128>
     Some(used)
 }
 
-/// The nodes of so many leaves.
+/// The nodes of `count` leaves.
 pub fn leaves(count: usize, limit: u128) -> Option<u128>
     ensures { SomeIff result (count ≤ limit) count }
 {
@@ -159,8 +159,7 @@ pub fn price_of_two<A: Allocator>(
     })
 }
 
-/// The price of a tree that was made from these values, and has all their nodes but the roots and so
-/// many more.
+/// The price of a tree that was made from these values, and has all their nodes but the roots, and `more`.
 #[tactic(auto, using(crate::proofs::Sizes::length_le))]
 pub fn price_without_roots<A: Allocator>(
     values: &[Value<A>],
@@ -184,8 +183,7 @@ pub fn price_without_roots<A: Allocator>(
     })
 }
 
-/// The price of a tree that was made from `read` elements, and has the nodes of these items and so
-/// many more.
+/// The price of a tree that was made from `read` elements, and has the nodes of these items and `more`.
 pub fn price_of_more<A: Allocator>(
     items: Items<'_, A>,
     more: u128,

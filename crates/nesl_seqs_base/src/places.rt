@@ -4,7 +4,7 @@ ghost use Rattle.nesl_seqs_base.specs.Places.{place_of};
 
 use crate::item::Item;
 
-/// No number of 64 bits with a sign comes to this or more.
+/// No signed number of 64 bits is this or more.
 const SIGNLESS: usize = 1 << 63;
 
 /// The place that an index names in a sequence of that length.

@@ -10,7 +10,7 @@ pub enum SeqFn {
     ElementAt,
     /// `v ++ w`: the one, then the other.
     Append,
-    /// `dist(x, k)`: a value so often.
+    /// `dist(x, k)`: a value, `k` times.
     Dist,
     /// `[s:e]`: the numbers from the one to before the other.
     Range,

@@ -25,7 +25,7 @@ halved ts n h a b x y len half front back first second =
     let middle : h ≡ (length ts + 1) / 2 = rw (half, len) refl in
     ap (λ t. t ∷ y ∷ []) (first ∙ ap sequence (front ∙ front_range h ts)) ∙ ap (λ t. sequence (take h ts) ∷ t ∷ []) (second ∙ ap sequence (back ∙ back_range h n ts len)) ∙ ap (λ k. sequence (take k ts) ∷ sequence (drop k ts) ∷ []) middle
 
--- the price of a tree of so many nodes
+-- the price of a tree of `nodes` nodes
 pub priced_within : (t : ValueTree) (n work nodes limit : ℕ) → size t ≡ nodes → work + 1 ≡ 1 + n + nodes → work ≤ limit → (1 + n + (size t - 1) ≤ limit) × ◌≡◌ {A = Price} (record { work = work; depth = 1; nodes = nodes }) (price n 1 t)
 priced_within t n work nodes limit is paid within =
     (omega (arith, size_positive t), same (1 + n + (size t - 1)) (size t) (omega (arith, size_positive t)) (sym is))

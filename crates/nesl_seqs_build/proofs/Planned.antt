@@ -1,4 +1,4 @@
--- What plans come to.
+-- What plans build, and for which price.
 use Rattle.std.proofs.Common.{◌≡◌, ◌∙◌, ℕ, ◌+◌, ◌<◌, ◌^◌, ℤ, arith, List, [], length, Option, Some, None, option_map, option_and_then, unwrap_or, IsSome, Ok, Err, ap, sym, subst, refl}
 use Rattle.std.proofs.lemmas.Option.{some_pair_parts}
 use Rattle.nesl_scalars.specs.declared.trap.Trap.{Trap}
@@ -13,7 +13,7 @@ use Rattle.nesl_seqs_base.proofs.Shapes.{length_all}
 use Rattle.nesl_seqs_build.specs.Plans.{Plans, built, read_by, IsSound}
 use Rattle.nesl_seqs_build.specs.declared.plan.Plan.{Plan}
 
--- the plan of what a part of the argument comes to
+-- the plan of what a part of the argument gives
 pub plan_given : {A X : Type 0} (o : Option X) (x : X) (f : X → Outcome) (read : X → ℕ) (p : Plan A) → Some x ≡ o → f x ≡ gives (built p) → read_by p ≡ read x → IsSound p → Plans (if_there o f) (unwrap_or (option_map read o) 0) (Ok p)
 plan_given o x f read p e is len sound = subst (λ q. Plans (if_there q f) (unwrap_or (option_map read q) 0) (Ok p)) e (is, len, sound)
 

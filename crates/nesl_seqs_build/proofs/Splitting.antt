@@ -1,4 +1,4 @@
--- The elements beside which a truth value stands.
+-- The elements that have a truth value beside them.
 use mathlib.Core.Bool.{beq}
 use Rattle.nesl_scalars.specs.declared.trap.Trap.TheVariants.{Length}
 use Rattle.std.proofs.lemmas.Bool.{eq-eqb}

@@ -1,4 +1,4 @@
--- What a plan comes to.
+-- What a plan builds, and for which price.
 use Rattle.std.specs.Prelude.{◌≡◌, ℕ, ◌+◌, ◌<◌, ⊤, ℤ, Bool, true, false, List, [], ◌++◌, length, map, replicate}
 use Rattle.std.specs.Prelude.{reverse, slice_set, unwrap_or, IsSome, Result, Ok, Err}
 use Rattle.std.specs.List.{flat_map}

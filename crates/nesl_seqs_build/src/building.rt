@@ -1,5 +1,5 @@
-// Sequences that are put together in a builder. What fills one has it lent, so that it is let go at one
-// place alone where memory is short.
+// Sequences that are put together in a builder. What fills one has it lent, so that it is dropped at one place alone
+// where memory is short.
 ghost use Rattle.std.specs.Prelude.{◌≡◌, ◌++◌, ◌∷◌, List, [], IfOk, OnOk};
 ghost use Rattle.nesl_values.specs.Tree.{ValueTree, sequence};
 ghost use Rattle.nesl_values.specs.View.{tree_of, item_trees};

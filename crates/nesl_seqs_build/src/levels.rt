@@ -46,7 +46,6 @@ fn sequences<A: Allocator>(argument: Argument<'_, A>) -> Option<&[Value<A>]>
     }
 }
 
-/// The plan of `flatten`.
 pub fn plan_flatten<A: Allocator>(argument: Argument<'_, A>) -> Result<Plan<'_, A>, Trap>
     ensures { Plans (outcome_of Flatten (argument_tree argument.entry))
         (reads Flatten (argument_tree argument.entry)) result }
@@ -91,7 +90,7 @@ pub(crate) fn all_elements<A: Allocator + Copy>(
     builder.finish()
 }
 
-// Whether the counts are lengths of pieces of so many items.
+// Whether the counts are lengths of pieces of `len` items.
 fn check_counts<A: Allocator>(counts: Items<'_, A>, len: usize) -> Result<(), Trap>
     ensures { Checks (option_map (are_lengths len) (all_of as_int (item_trees counts.entry))) result }
 {
@@ -122,7 +121,6 @@ fn check<T: Item>(counts: &[T], len: usize) -> Result<(), Trap>
     Ok(())
 }
 
-/// The plan of `partition`.
 pub fn plan_partition<A: Allocator>(argument: Argument<'_, A>) -> Result<Plan<'_, A>, Trap>
     ensures { Plans (outcome_of Partition (argument_tree argument.entry))
         (reads Partition (argument_tree argument.entry)) result }
@@ -198,7 +196,7 @@ fn all_pieces<A: Allocator + Copy>(
     Value::sequence(alloc, made)
 }
 
-// Where the piece that begins there ends: it has so many items, or all that are left.
+// Where the piece that begins there ends: it has `count` items, or all that are left.
 fn end_of<A: Allocator>(items: Items<'_, A>, start: usize, count: i64) -> usize
     requires { start ≤ length (item_trees items) }
     ensures within { (start ≤ result) × (result ≤ length (item_trees items.entry)) }

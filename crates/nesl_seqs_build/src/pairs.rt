@@ -18,7 +18,6 @@ use nesl_seqs_base::price::Price;
 use nesl_values::{Items, Value};
 use std::alloc::{AllocError, Allocator};
 
-/// The plan of `zip`.
 pub fn plan_zip<A: Allocator>(argument: Argument<'_, A>) -> Result<Plan<'_, A>, Trap>
     ensures { Plans (outcome_of Zip (argument_tree argument.entry))
         (reads Zip (argument_tree argument.entry)) result }

@@ -76,7 +76,6 @@ fn half_of(len: usize) -> usize
     len / 2 + len % 2
 }
 
-/// The plan of `bottop`.
 pub fn plan_bottop<A: Allocator>(argument: Argument<'_, A>) -> Result<Plan<'_, A>, Trap>
     ensures { Plans (outcome_of Bottop (argument_tree argument.entry))
         (reads Bottop (argument_tree argument.entry)) result }
@@ -119,7 +118,6 @@ fn taken<A: Allocator>(items: Items<'_, A>, count: i64) -> Result<Items<'_, A>, 
     Ok(items.part(0, kept))
 }
 
-/// The plan of `take`.
 pub fn plan_take<A: Allocator>(argument: Argument<'_, A>) -> Result<Plan<'_, A>, Trap>
     ensures { Plans (outcome_of Take (argument_tree argument.entry))
         (reads Take (argument_tree argument.entry)) result }
@@ -151,7 +149,6 @@ fn dropped<A: Allocator>(items: Items<'_, A>, count: i64) -> Result<Items<'_, A>
     Ok(items.part(left, len))
 }
 
-/// The plan of `drop`.
 pub fn plan_drop<A: Allocator>(argument: Argument<'_, A>) -> Result<Plan<'_, A>, Trap>
     ensures { Plans (outcome_of Drop (argument_tree argument.entry))
         (reads Drop (argument_tree argument.entry)) result }
@@ -166,7 +163,6 @@ pub fn plan_drop<A: Allocator>(argument: Argument<'_, A>) -> Result<Plan<'_, A>,
     })
 }
 
-/// The plan of `reverse`.
 pub fn plan_reverse<A: Allocator>(argument: Argument<'_, A>) -> Result<Plan<'_, A>, Trap>
     ensures { Plans (outcome_of Reverse (argument_tree argument.entry))
         (reads Reverse (argument_tree argument.entry)) result }
@@ -199,7 +195,6 @@ fn turn(len: usize, count: i64) -> usize
     count.rem_euclid(len as i64) as usize
 }
 
-/// The plan of `rotate`.
 pub fn plan_rotate<A: Allocator>(argument: Argument<'_, A>) -> Result<Plan<'_, A>, Trap>
     ensures { Plans (outcome_of Rotate (argument_tree argument.entry))
         (reads Rotate (argument_tree argument.entry)) result }

@@ -1,4 +1,4 @@
-//! What a function that makes sequences of parts comes to, told before it is built.
+//! What a function that makes sequences of parts returns, as a plan from which it is priced and then built.
 ghost use Rattle.std.specs.Prelude.{◌≡◌, ⊤, ◌+◌, ◌-◌, ◌≤◌, length, IfOk, SomeIff};
 ghost use Rattle.nesl_values.specs.Tree.{size};
 ghost use Rattle.nesl_values.specs.View.{tree_of, item_trees};
@@ -42,7 +42,7 @@ pub enum Plan<'a, A: Allocator = Global> {
     Reversed(Items<'a, A>),
     /// Numbers in equal steps.
     Steps(Progression),
-    /// So many of one value.
+    /// One value, `count` times.
     Copies {
         item: &'a Value<A>,
         count: u64,

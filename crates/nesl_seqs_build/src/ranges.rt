@@ -172,7 +172,6 @@ pub fn plan_range_by<A: Allocator>(argument: Argument<'_, A>) -> Result<Plan<'_,
     Ok(Plan::Steps(numbers))
 }
 
-/// The plan of `index`.
 #[tactic(auto, using(crate::proofs::Numbers::size_progression))]
 pub fn plan_index<A: Allocator>(argument: Argument<'_, A>) -> Result<Plan<'_, A>, Trap>
     ensures few { IfOk result (λ p. size (built p) < 2 ^ 65) }
@@ -207,7 +206,7 @@ pub(crate) fn price_of_copies<A: Allocator>(
     })
 }
 
-// The nodes of so many copies: the item is walked no further than its share of the limit.
+// The nodes of `count` copies: the item is walked no further than its share of the limit.
 fn nodes_of_copies<A: Allocator>(item: &Value<A>, count: u64, limit: u128) -> Option<u128>
     ensures { SomeIff result
         (count * size (tree_of item.now) ≤ limit) (count * size (tree_of item.now)) }
@@ -220,7 +219,6 @@ fn nodes_of_copies<A: Allocator>(item: &Value<A>, count: u64, limit: u128) -> Op
     Some(count * nodes)
 }
 
-/// The plan of `dist`.
 pub fn plan_dist<A: Allocator>(argument: Argument<'_, A>) -> Result<Plan<'_, A>, Trap>
     ensures few { size (argument_tree argument.entry) < 2 ^ 65 → IfOk result (λ p. size (built p) < 2 ^ 128) }
     ensures plan { Plans (outcome_of Dist (argument_tree argument.entry))
@@ -236,7 +234,7 @@ pub fn plan_dist<A: Allocator>(argument: Argument<'_, A>) -> Result<Plan<'_, A>,
     Ok(Plan::Copies { item, count })
 }
 
-/// So many copies of a value.
+/// `count` copies of a value.
 pub(crate) fn copies<A: Allocator + Copy>(
     alloc: A,
     item: &Value<A>,

@@ -24,7 +24,7 @@ use nesl_values::{Element, Items, Value};
 use nesl_values_builder::SequenceBuilder;
 use std::alloc::{AllocError, Allocator};
 
-// The place, where there is one.
+// The place that the number names, or the fault `range`.
 fn place_in(len: usize, place: i64) -> Result<usize, Trap>
     ensures { MatchResult result
         (λ i. (i < len) × (place ≡ pos i))
@@ -102,7 +102,6 @@ pub(crate) fn price_of_replaced<A: Allocator>(
     })
 }
 
-/// The plan of `rep`.
 pub fn plan_rep<A: Allocator>(argument: Argument<'_, A>) -> Result<Plan<'_, A>, Trap>
     ensures { Plans (outcome_of Rep (argument_tree argument.entry))
         (reads Rep (argument_tree argument.entry)) result }

@@ -63,7 +63,6 @@ fn sequence_of_pairs<A: Allocator>(argument: Argument<'_, A>) -> Option<&[Value<
     }
 }
 
-/// The plan of `unzip`.
 pub fn plan_unzip<A: Allocator>(argument: Argument<'_, A>) -> Result<Plan<'_, A>, Trap>
     ensures { Plans (outcome_of Unzip (argument_tree argument.entry))
         (reads Unzip (argument_tree argument.entry)) result }
@@ -164,7 +163,6 @@ fn are_all_truths<A: Allocator>(values: &[Value<A>]) -> bool
     values.iter().all(|value| value.as_bool().is_some())
 }
 
-/// The plan of `split`.
 pub fn plan_split<A: Allocator>(argument: Argument<'_, A>) -> Result<Plan<'_, A>, Trap>
     ensures { Plans (outcome_of Split (argument_tree argument.entry))
         (reads Split (argument_tree argument.entry)) result }
@@ -243,7 +241,7 @@ fn both_pieces<A: Allocator + Copy>(
     sequence_of_two(alloc, apart, chosen)
 }
 
-// The items beside which that flag stands.
+// The items that have that flag beside them.
 fn items_beside<A: Allocator + Copy>(
     alloc: A,
     items: Items<'_, A>,

@@ -31,7 +31,7 @@ pub or_false : (b c : Bool) → c ≡ false → (b || c) ≡ b
 or_false true c h = refl
 or_false false c h = h
 
--- the bit that stands for a place
+-- the bit of a place
 abbrev bit_of : List ℕ → ℕ → Bool
 bit_of ws q = nat_eq (bit_at (get_or ws (q / 64) 0) (q % 64)) 1
 

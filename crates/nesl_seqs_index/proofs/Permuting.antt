@@ -203,7 +203,7 @@ inverse_picks ts js zs same named differ inverts =
         let same_number : z ≡ pos from.0 = cc number in
         ap (λ y. option_and_then (slice_get ts) (place_in (length ts) y)) same_number ∙ ap (option_and_then (slice_get ts)) (place_in_pos (length ts) from.0 (slice_get_within ts from.0 found.0 from.4)) ∙ from.4 ∙ sym found.1
 
--- what comes of indices
+-- what indices become
 abbrev arranged : List ValueTree → List ℕ → Outcome
 arranged ts ks = cond (all_differ ks) (gives (sequence (rearranged ts ks))) (traps Permutation)
 
@@ -379,7 +379,7 @@ all_there : {X Y : Type 0} (f : X → Y) (xs : List X) → filter_map (λ x. Som
 all_there f [] = refl
 all_there f (x ∷ xs) = ap (λ ys. f x ∷ ys) (all_there f xs)
 
--- so they stand as the definition has them
+-- so the elements are where the definition has them
 pub arrived : {X : Type 0} (f : X → ValueTree) (xs vs : List X) (js : List ValueTree) → length js ≡ length (map f xs) → AllName (length (map f xs)) js → all_differ (places_of (length (map f xs)) js) ≡ true → Arrive xs vs js
     → map f vs ≡ rearranged (map f xs) (places_of (length (map f xs)) js)
 arrived {X = X} f xs vs js same named differ arrive =

@@ -1,4 +1,4 @@
--- What plans come to.
+-- What plans build, and for which price.
 use Rattle.std.proofs.Common.{◌≡◌, ◌∙◌, ℕ, ◌+◌, true, false, List, length, map, is_some, Option, Some, option_map, unwrap_or, Result, Ok, Err, IfOk, ap, refl, sym, subst}
 use Rattle.std.specs.List.{list_all}
 use Rattle.std.proofs.lemmas.List.{length-map}
@@ -21,7 +21,7 @@ use Rattle.nesl_seqs_index.proofs.Permuting.{arranged_given, is_arranged}
 use Rattle.nesl_seqs_index.proofs.Writing.{given_written, refused_write}
 use Rattle.nesl_seqs_index.proofs.Tables.{refused_places, are_named, are_apart_all}
 
--- a refusal of an outcome is one of every answer
+-- a refusal of an outcome is one of each result
 pub refusal : {X : Type 0} (R : ValueTree → X → Type 0) (o : Outcome) (e : Trap) → IsRefused o e → OutcomeGives R o (Err e)
 refusal R (gives t) e h = h
 refusal R (traps d) e h = h
@@ -38,7 +38,7 @@ refusal_planned A (gives t) read e h = h
 refusal_planned A (traps d) read e h = h
 refusal_planned A undefined read e h = h
 
--- what an answer says that there is
+-- the tree that a result shows to be given
 pub answered : {X : Type 0} (R : ValueTree → X → Type 0) (o : Outcome) (x : X) → OutcomeGives R o (Ok x) → (t : ValueTree) × (o ≡ gives t) × R t x
 answered R (gives t) x h = (t, refl, h)
 answered R (traps d) x h = absurd h

@@ -85,7 +85,7 @@ some_uncounted [] h = absurd (omega (arith, h))
 some_uncounted (true ∷ ms) h = some_uncounted ms (omega (arith, h, sum_by-cons (λ m. cond m 1 0) true ms))
 some_uncounted (false ∷ ms) h = refl
 
--- the marks stand at the places that were seen
+-- the marks are at the places that were seen
 abbrev Tells : List Bool → List ℕ → Type 0
 Tells ms seen = (k : ℕ) → k < length ms → get_or ms k false ≡ list_any (nat_eq k) seen
 

@@ -211,7 +211,7 @@ some_write (Some w) c h =
     let same : c ≡ w.0 = cc h in
     (w.1, ap (λ k. Some (k, w.1)) same)
 
--- where the last writers are told of a window
+-- the last writers of the places of a window, as they are noted
 abbrev pub TellsLast : List ValueTree → List ℕ → ℕ → List (ℕ × ValueTree) → Type 0
 TellsLast us last window ws = (q : ℕ) → q < 4096 → told_by us (get_or last q 0) ≡ arrival (reverse ws) (window * 4096 + q)
 

@@ -22,7 +22,7 @@ abbrev pub are_new : ℕ → List ℕ → List ℕ → Bool
 are_new window seen [] = true
 are_new window seen (k ∷ ks) = is_new window seen k && are_new window (seen ++ k ∷ []) ks
 
--- the marks of a window stand just at its places that were seen
+-- the marks of a window are just at its places that were seen
 abbrev pub MarksSeen : List ℕ → ℕ → List ℕ → Type 0
 MarksSeen ws window seen = (k : ℕ) → k / 524288 ≡ window → is_marked ws (k % 524288) ≡ list_any (nat_eq k) seen
 

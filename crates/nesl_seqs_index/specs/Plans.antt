@@ -1,4 +1,4 @@
--- What a plan comes to.
+-- What a plan builds, and for which price.
 use Rattle.std.specs.Prelude.{◌≡◌, ℕ, ◌+◌, ◌<◌, ◌≤◌, ◌^◌, ⊤, IsTrue, length, map, is_some, Result, Ok, Err}
 use Rattle.std.specs.List.{list_all}
 use Rattle.nesl_scalars.specs.declared.trap.Trap.{Trap}

@@ -31,7 +31,6 @@ use nesl_seqs_base::price::Price;
 use nesl_values::{Items, Value};
 use std::alloc::{AllocError, Allocator};
 
-/// The plan of `permute`.
 pub fn plan_permute<A: Allocator>(argument: Argument<'_, A>) -> Result<Plan<'_, A>, Trap>
     ensures { Plans (outcome_of Permute (argument_tree argument.entry))
         (reads Permute (argument_tree argument.entry)) result }

@@ -1,4 +1,4 @@
-//! What a function that moves elements by their places comes to, told before it is built.
+//! What a function that moves elements by their places returns, as a plan from which it is priced and then built.
 ghost use Rattle.std.specs.Prelude.{◌≡◌, ⊤, ◌+◌, ◌-◌, ◌≤◌, IfOk, SomeIff};
 ghost use Rattle.nesl_values.specs.Tree.{size};
 ghost use Rattle.nesl_values.specs.View.{tree_of};
@@ -16,7 +16,7 @@ use std::alloc::{AllocError, Allocator, Global};
 /// The result of a function at an argument that has one, as it is to be priced and built.
 #[derive_where(Copy)]
 pub enum Plan<'a, A: Allocator = Global> {
-    /// Every other of these items, from the first on, where so many were read.
+    /// Every other of these items, from the first on, and how many were read.
     EveryOther {
         items: Items<'a, A>,
         read: usize,

@@ -20,7 +20,6 @@ use nesl_values::{Items, Value};
 use nesl_values_builder::SequenceBuilder;
 use std::alloc::{AllocError, Allocator};
 
-/// The plan of `even_elts`.
 pub fn plan_even_elts<A: Allocator>(argument: Argument<'_, A>) -> Result<Plan<'_, A>, Trap>
     ensures { Plans (outcome_of EvenElts (argument_tree argument.entry))
         (reads EvenElts (argument_tree argument.entry)) result }
@@ -34,7 +33,6 @@ pub fn plan_even_elts<A: Allocator>(argument: Argument<'_, A>) -> Result<Plan<'_
     }
 }
 
-/// The plan of `odd_elts`.
 pub fn plan_odd_elts<A: Allocator>(argument: Argument<'_, A>) -> Result<Plan<'_, A>, Trap>
     ensures { Plans (outcome_of OddElts (argument_tree argument.entry))
         (reads OddElts (argument_tree argument.entry)) result }
@@ -146,7 +144,6 @@ fn can_weave(one: usize, other: usize) -> bool
     other <= one && one - other <= 1
 }
 
-/// The plan of `interleave`.
 pub fn plan_interleave<A: Allocator>(argument: Argument<'_, A>) -> Result<Plan<'_, A>, Trap>
     ensures { Plans (outcome_of Interleave (argument_tree argument.entry))
         (reads Interleave (argument_tree argument.entry)) result }

@@ -18,7 +18,7 @@ use Rattle.nesl_syntax_open.specs.Machine.{expression}
 use Rattle.nesl_syntax.specs.Reading.{begun_line, line_in}
 use Rattle.nesl_syntax.specs.Given.{GivesLine}
 
--- a line's first token, and those behind it
+-- a line's first token, and those after it
 pub line_from : (ts : List Token) (t : Token) (k : Kind) → 1 ≤ length ts → t ≡ get_or ts 0 t → t.kind ≡ k → line_in (placed ts) ≡ begun_line (lexeme_of k) (placed ts) (placed (take (length ts - 1) (drop 1 ts)))
 line_from [] t k h e j = absurd (omega arith)
 line_from (u ∷ us) t k h e j =

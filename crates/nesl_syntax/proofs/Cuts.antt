@@ -161,7 +161,7 @@ mutual
   types_uncut d (grammar.one_type q) = type_uncut d q
   types_uncut d (grammar.type_pairs {us = us} {vs = vs} s i j) = with_comma d us vs s (type_uncut d i) (types_uncut d j)
 
--- the tokens before one that divides, and behind it
+-- the tokens before one that divides, and after it
 pub cut_at : (d : Divider) (xs : List Token) (i : ℕ) (t : Token) → i < length xs → t ≡ get_or xs i t → cut d (placed (take i xs)) ≡ None → divides d (lexeme_of t.kind) ≡ true → cut d (placed xs) ≡ Some (placed (take i xs), placed (drop (i + 1) xs))
 cut_at d xs i t l g h k =
     let whole : xs ≡ take i xs ++ t ∷ drop (i + 1) xs = sym (take-append-drop i xs) ∙ at_drop_more (λ (ys : List Token). take i xs ++ ys) xs i t l ∙ ap (λ (x : Token). take i xs ++ x ∷ drop (i + 1) xs) (sym g) in

@@ -14,7 +14,7 @@ use Rattle.nesl_syntax_tree.specs.Views.{member_tree}
 use Rattle.nesl_syntax.specs.Reading.{with_both, more_of, member_of, behind_of, members_with, members_in}
 use Rattle.nesl_syntax.specs.Given.{Given, SeesMember, SeesMembers, behind_members, Listing}
 
--- four tokens, and those behind them
+-- four tokens, and those after them
 pub record Four (ts : List Token) (a b c d : Token) : Type 0 where
   pub is_a : a ≡ get_or ts 0 a
   pub is_b : b ≡ get_or ts 1 b
@@ -50,14 +50,14 @@ behind_one : (ms : List Member) (m : Member) (o : Option (List MemberTree)) → 
 behind_one ms m None = refl
 behind_one ms m (Some xs) = ap (λ (x : List MemberTree). Some x) (simp (map-append, append_assoc))
 
--- one more member, and a ; behind it
+-- one more member, and a ; after it
 pub listed_more : (ms : List Member) (m : Member) (ts : List Token) (all : List Placed) (a b c d : Token) → Listing ms (placed ts) all → Four ts a b c d → Given SeesMember (Ok m) (member_of (placed_of a).lexeme (placed_of b).lexeme (placed_of c).lexeme)
     → end.Semicolon ≡ behind_of (placed_of d).lexeme (behind_four ts) → Listing (ms ++ m ∷ []) (behind_four ts) all
 listed_more ms m ts all a b c d l f g h =
     let e = four_read ts a b c d end.Semicolon f h ∙ ap (λ (o : Option MemberTree). with_both more_of o (members_in (behind_four ts))) (given_member m _ g) in
     record { same = l.same ∙ ap (option_map (behind_members (map member_tree ms))) e ∙ behind_one ms m (members_in (behind_four ts)) }
 
--- the last one, and a ) behind it
+-- the last one, and a ) after it
 pub listed_last : (ms : List Member) (m : Member) (v : Vec Member Global) (ts : List Token) (all : List Placed) (a b c d : Token) → Listing ms (placed ts) all → Four ts a b c d → Given SeesMember (Ok m) (member_of (placed_of a).lexeme (placed_of b).lexeme (placed_of c).lexeme)
     → end.Close ≡ behind_of (placed_of d).lexeme (behind_four ts) → v.items ≡ ms ++ m ∷ [] → Given (λ (w : Vec Member Global). SeesMembers w.items) (Ok v) (members_in all)
 listed_last ms m v ts all a b c d l f g h k =
@@ -65,7 +65,7 @@ listed_last ms m v ts all a b c d l f g h k =
     let j : members_in all ≡ Some (map member_tree ms ++ member_tree m ∷ []) = l.same ∙ ap (option_map (behind_members (map member_tree ms))) e in
     rw j (ap (map member_tree) k ∙ map-append member_tree ms (m ∷ []))
 
--- something else behind one
+-- something else after one
 pub listed_wrong : (ms : List Member) (ts : List Token) (all : List Placed) (a b c d : Token) → Listing ms (placed ts) all → Four ts a b c d → end.Other ≡ behind_of (placed_of d).lexeme (behind_four ts) → members_in all ≡ None
 listed_wrong ms ts all a b c d l f h = l.same ∙ ap (option_map (behind_members (map member_tree ms))) (four_read ts a b c d end.Other f h)
 

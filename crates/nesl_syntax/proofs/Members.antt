@@ -15,7 +15,7 @@ use Rattle.nesl_syntax_tree.specs.Lines.{class_text, member_tokens, AreMembers, 
 use Rattle.nesl_syntax.specs.Reading.{with_both, class_of, member_with, member_named, member_of, behind_of, members_with, members_in}
 use Rattle.nesl_syntax.proofs.Texts.{class_text_read, class_is}
 
--- the parts of what there is only where there are both
+-- the parts of a value that there is only where both parts are
 pub record BothOf {A B C : Type 0} (f : A → B → C) (x : Option A) (y : Option B) (z : C) : Type 0 where
   pub left : A
   pub right : B
@@ -32,7 +32,7 @@ pub mapped : {A B : Type 0} (f : A → B) (o : Option A) (y : B) → option_map 
 mapped f None y h = cc
 mapped f (Some x) y h = (x, refl, cc)
 
--- the tokens of members, and a ) behind them, are read as the members
+-- the tokens of members, and a ) after them, are read as the members
 pub members_read : {us : List Placed} {ms : List MemberTree} → AreMembers us ms → (t : Span) → members_in (us ++ sign_at sign.CloseParenthesis t ∷ []) ≡ Some ms
 members_read (one_member m s i u) t = rw (class_text_read m.class) refl
 members_read (more_members m s i u c p) t = rw (class_text_read m.class, members_read p t) refl

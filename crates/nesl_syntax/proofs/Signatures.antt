@@ -15,7 +15,7 @@ use Rattle.nesl_syntax.proofs.Sound.{is_type_read, is_pattern_read}
 use Rattle.nesl_syntax.proofs.Cuts.{cut_here, uncut_both, uncut_next, cut_whole, pattern_uncut, type_uncut}
 use Rattle.nesl_syntax.proofs.Members.{both_parts, mapped, members_read, members_are}
 
--- a type, and the members behind it
+-- a type, and the members after it
 pub data IsTarget : List Placed → Targets → Type 0 where
   plain_target : {vs : List Placed} {b : TypeTree} → IsType vs b → IsTarget vs (b, [])
   target_of_members : {vs ws : List Placed} {b : TypeTree} {ms : List MemberTree} (d t u : Span) → IsType vs b → AreMembers ws ms

@@ -45,7 +45,7 @@ pub data Opens : Group → List Placed → Type 0 where
   bare_opens : (s : Span) → Opens (each_group s None) (sign_at sign.OpenBrace s ∷ [])
   body_opens : {us : List Placed} {e : Tree} (s c : Span) → IsExpression 2 us e → Opens (each_group s (Some e)) (sign_at sign.OpenBrace s ∷ (us ++ (sign_at sign.Colon c ∷ [])))
 
--- the binders so far, with a ; behind them
+-- the binders so far, with a ; after them
 pub data SoFar : Lexeme → List Placed → Binders → Type 0 where
   none_so_far : {x : Lexeme} → SoFar x [] no_binders
   some_so_far : {x : Lexeme} {us : List Placed} {bs : Binders} (c : Span) → AreBinders x us bs → SoFar x (us ++ (sign_at sign.Semicolon c ∷ [])) bs
@@ -76,7 +76,7 @@ pub data Stands : Waiting → List Placed → Type 0 where
   type_round_stands : (s : Span) → Stands (type_at (type_round s)) (sign_at sign.OpenParenthesis s ∷ [])
   type_comma_stands : {us : List Placed} {a : TypeTree} (s : Span) → IsType us a → Stands (type_at (type_comma a)) (us ++ (sign_at sign.Comma s ∷ []))
 
--- the tokens of all that waits, each where it may stand
+-- the tokens of all that waits, each where it may come
 pub data Line_so_far : List Waiting → List Placed → Type 0 where
   nothing_waits : Line_so_far [] []
   waits : {ws : List Waiting} {w : Waiting} {us vs : List Placed} → Line_so_far ws us → Stands w vs → wanted ws ≤ begun_by w → Line_so_far (w ∷ ws) (us ++ vs)
@@ -88,7 +88,7 @@ pub record IsName (ts : List Placed) (e : Tree) : Type 0 where
   pub tokens_are : ts ≡ name_at name at ∷ []
   pub tree_is : e ≡ node at (trees.variable name)
 
--- what waits, and behind it a phrase of a level that may stand there
+-- what waits, and after it a phrase of a level that may come there
 pub record Splits (n : ℕ) (ts : List Placed) (ws : List Waiting) (e : Tree) : Type 0 where
   pub first : List Placed
   pub rest : List Placed
@@ -99,7 +99,7 @@ pub record Splits (n : ℕ) (ts : List Placed) (ws : List Waiting) (e : Tree) : 
   pub fits : wanted ws ≤ level
   pub tight : n ≤ level
 
--- a phrase that ends in a token of its own, where it may stand
+-- a phrase that ends in a token of its own, where it may come
 pub record Tight (ws : List Waiting) (ts : List Placed) (e : Tree) : Type 0 where
   pub level : ℕ
   pub phrase : IsExpression level ts e
@@ -113,7 +113,7 @@ pub data Means : List Waiting → Mode → List Placed → Type 0 where
   means_typing : {ws : List Waiting} {ts : List Placed} → Line_so_far ws ts → Means ws typing ts
   means_typed : {ws : List Waiting} {us vs : List Placed} {a : TypeTree} → Line_so_far ws us → IsType vs a → Means ws (typed a) (us ++ vs)
 
--- what is nothing is not a value
+-- `None` isn't a value
 none_is : {A B : Type 0} (x : A) → None ≡ Some x → B
 none_is x h = cc
 
@@ -195,7 +195,6 @@ opened_means {ws = ws} {ts = ts} {us = us} w q l s h =
 moved : (q : State) (us vs : List Placed) → us ≡ vs → Means q.0 q.1 us → Means q.0 q.1 vs
 moved q us vs h m = subst (λ (x : List Placed). Means q.0 q.1 x) h m
 
--- an atom
 atom : {ws : List Waiting} {ts : List Placed} {e : Tree} → IsExpression 10 ts e → Tight ws ts e
 atom {ws = ws} p = record { level = 10; phrase = p; fits = wanted_small ws; tight = omega arith }
 
@@ -206,12 +205,12 @@ let_closed_is i ws (binder p e bs) q h = cc
 means_from : {p : State} (q : State) {ts : List Placed} → Means p.0 p.1 ts → p ≡ q → Means q.0 q.1 ts
 means_from q {ts = ts} m e = subst (λ (x : State). Means x.0 x.1 ts) e m
 
--- in behind a ;
+-- in after a ;
 let_closed_means : {ws : List Waiting} {us : List Placed} → Line_so_far ws us → (s : Span) (q : State) → let_closed ws ≡ Some q → Means q.0 q.1 (us ++ (word_at word.In s ∷ []))
 let_closed_means (waits {ws = ws} l (binders_stand {bs = bs} (let_opens i) (some_so_far c b)) k) s q h = means_from q (simp append_assoc (means_before (waits l (closed_body_stands i c s b) k))) (let_closed_is i ws bs q h)
 let_closed_means _ s q h = none_is q h
 
--- ] directly behind [
+-- ] directly after [
 emptied_means : {ws : List Waiting} {us : List Placed} → Line_so_far ws us → (s : Span) (q : State) → emptied ws ≡ Some q → Means q.0 q.1 (us ++ (sign_at sign.CloseBracket s ∷ []))
 emptied_means (waits l (list_stands i) k) s q h = means_at q (simp append_assoc (means_typing (waits l (empty_stands i s) k))) h
 emptied_means (waits {ws = ws} l (lists_stand {xs = xs} i c e) k) s q h = absurd (no_elements i ws xs e q h)
@@ -247,7 +246,7 @@ grown : {x : Lexeme} {us ps vs : List Placed} {bs : Binders} {p : PatternTree} {
 grown s none_so_far i q = grammar.one_binder s i q
 grown s (some_so_far c b) i q = simp append_assoc (grammar.more_binders c s b i q)
 
--- what a turn leaves: something that stands where the opening stood, or a phrase
+-- what a turn leaves: something in the place of the opening, or a phrase
 pub data Turned : Opening → List Placed → Turn → Type 0 where
   becomes_so : {o : Opening} {ts : List Placed} {w : Waiting} → Stands w ts → begun_by w ≡ opening_begins o → Turned o ts (becomes w)
   ends_so : {o : Opening} {ts : List Placed} {e : Tree} → IsExpression (opening_begins o) ts e → 9 ≤ opening_begins o → Turned o ts (ends e)
@@ -311,7 +310,7 @@ marked_means (waits {w = open_at o} {us = us} {vs = own} l s k) m t vs e q p h =
     moved q _ _ (sym (append_assoc us own (vs ++ (token_at (mark_token m) t ∷ []))) ∙ sym (append_assoc (us ++ own) vs (token_at (mark_token m) t ∷ []))) (took_means (turned m t o e) q l k (λ x y. turned_means s m t vs e x p y) h)
 marked_means _ m t vs e q p h = none_is q h
 
--- behind a comma
+-- after a comma
 separated_means : {ws : List Waiting} {us : List Placed} → Line_so_far ws us → (t : Span) (vs : List Placed) (e : Tree) (q : State) → IsExpression 2 vs e → separated ws e ≡ Some q → Means q.0 q.1 ((us ++ vs) ++ (sign_at sign.Comma t ∷ []))
 separated_means (waits l (list_stands s) k) t vs e q p h = means_at q (simp append_assoc (means_before (waits l (lists_stand s t (grammar.one_element p)) k))) h
 separated_means (waits l (lists_stand s c r) k) t vs e q p h = means_at q (simp append_assoc (simp append_assoc at (means_before (waits l (lists_stand s t (grammar.more_elements c r p)) k)))) h
@@ -326,7 +325,7 @@ fresh_means : {ws : List Waiting} {us vs : List Placed} (b : Bool) (e : Tree) (s
 fresh_means true e s q l n h = called_means e s q l (n refl) h
 fresh_means false e s q l n h = cc
 
--- the token that does this behind an expression
+-- the token that does this after an expression
 abbrev follow_token : Follow → Option Lexeme
 follow_token follow.Call = Some (symbol sign.OpenParenthesis)
 follow_token follow.Index = Some (symbol sign.OpenBracket)
@@ -382,7 +381,7 @@ module _ (ws : List Waiting) (us vs : List Placed) (e : Tree) (l : Line_so_far w
   mark_low mark.CloseParenthesis = (omega arith, omega arith)
   mark_low _ = (omega arith, omega arith)
 
-  -- behind a phrase that may have an index behind it
+  -- after a phrase that may have an index after it
   pick_level : (w : Waiting) (q : State) → opened w ws ≡ Some q → wanted ws ≤ begun_by w
   pick_level w q h = let e = cond_some (leb (wanted ws) (begun_by w)) (w ∷ ws, before) q h in leb-true _ _ e.0
 

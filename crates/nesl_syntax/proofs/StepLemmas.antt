@@ -74,7 +74,7 @@ pub type_alone_none : (ps : List Pending) (ws : List Waiting) (a : TypeTree) →
 type_alone_none ps [] a s h = let e : ps ≡ [] = sym (reverse-reverse ps) ∙ ap reverse (each_of_none (reverse ps) s.each) in absurd (omega (arith, ap length e))
 type_alone_none ps (w ∷ ws) a s h = refl
 
--- a comma is put together with the type behind it
+-- a comma is put together with the type after it
 pair_closes : (t : Span) (mid : List Pending) (left r : TypePart) (ws : List Waiting) (a : TypeTree) → TypePopped (Some (types.Comma left)) mid (newest_type ws) → ((b : TypeTree) → SeesType left b → SeesType r (type_pair b a)) → Closes t ws a mid r
 pair_closes t mid left r [] a h put = absurd h
 pair_closes t mid left r (type_at o ∷ ws) a h put =
@@ -118,7 +118,7 @@ pub round_closes : (t u : Span) (old mid new : List Pending) (part wide : TypePa
 round_closes t u old mid new part wide given ws a popped widen f c =
     subst (λ (z : Option State). Follows given new z) c.same (round_ends t u mid new wide given c.now c.last (popped c.now c.stack) (widen c.last c.sees) f)
 
--- nothing else is
+-- no other type opening is closed so
 no_close : (t : Span) (mid : List Pending) (p : TypeOpening) (ws : List Waiting) (a : TypeTree) → TypePopped (Some p) mid (newest_type ws) → ((u : Span) → p ≡ types.Round u → ⊥) → ((q : TypePart) → p ≡ types.Comma q → ⊥) → type_closed ws t a ≡ None
 no_close t mid p [] a h i j = absurd h
 no_close t mid (types.Empty s) (type_at o ∷ ws) a h i j = rw h.0 refl

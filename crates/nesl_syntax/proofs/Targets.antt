@@ -1,4 +1,4 @@
--- What stands behind a signature's ->, from its parts.
+-- What comes after a signature's ->, from its parts.
 use Rattle.std.proofs.Common.{◌≡◌, List, Option, Some, None, Vec, Global}
 use Rattle.std.specs.Prelude.{Ok}
 use Rattle.nesl_lex.specs.Tokens.{Placed}

@@ -1,4 +1,4 @@
--- What a part of a line answered stands for.
+-- What a part of a line means that a call returned.
 use Rattle.std.specs.Prelude.{◌≡◌, ◌≤◌, ◌<◌, ℕ, List, ◌++◌, codes, map, option_map, Option, Some, None, Result, Ok, Err}
 use Rattle.nesl_syntax_open.specs.declared.fault.ParseFault.{ParseFault}
 use Rattle.nesl_syntax_open.specs.declared.fault.ParseFault.TheVariants.{Syntax, Nested, Memory}
@@ -20,7 +20,7 @@ use Rattle.nesl_syntax_tree.specs.Parts.{SeesType, SeesPattern}
 use Rattle.nesl_syntax.specs.Reading.{Targets, Heads, members_in}
 use Rattle.nesl_lex.specs.Tokens.{Placed}
 
--- what a call answered stands for this, or there is nothing and the answer says so, or memory ran out
+-- what a call returned means this; or there is nothing to return, and the result says so; or memory ran out
 abbrev pub Given : {A B : Type 0} → (A → B → Type 0) → Result A ParseFault → Option B → Type 0
 Given sees (Ok a) (Some b) = sees a b
 Given sees (Ok a) None = ⊥
@@ -56,7 +56,7 @@ SeesOptional _ _ = ⊥
 abbrev pub SeesHead : Head → Heads → Type 0
 SeesHead h p = SeesPattern h.pattern p.0 × SeesOptional h.signature p.1
 
--- what a call answered is this expression, or there is none and the answer says so, or it is too high,
+-- what a call returned is this expression, or there is none and the result says so, or it is too high,
 -- or memory ran out
 abbrev pub GivesExp : Result (Box Exp) ParseFault → Option Tree → Type 0
 GivesExp (Ok e) (Some x) = (tree_of e.value ≡ x) × (height x ≤ 100)
@@ -66,7 +66,7 @@ GivesExp (Err Nested) (Some x) = 100 < height x
 GivesExp (Err Nested) None = ⊥
 GivesExp (Err Memory) x = Unit {0}
 
--- what a line stands for, whose parts lie on the heap
+-- what a line means whose parts are on the heap
 abbrev pub boxed_signature : Box Signature → SignatureTree
 boxed_signature s = signature_tree s.value
 

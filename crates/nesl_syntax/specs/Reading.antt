@@ -1,4 +1,4 @@
--- A line, read by its first tokens and cut at signs that stand in no part before them.
+-- A line, read by its first tokens and cut at signs that are in no part before them.
 use Rattle.std.specs.Prelude.{ℕ, Bool, true, false, ◌&&◌, if◌then◌else◌, nat_eq, List, [], ◌∷◌, codes, Option, Some}
 use Rattle.std.specs.Prelude.{None, option_map, option_and_then}
 use Rattle.nesl_lex.specs.Tokens.{Placed, Lexeme, symbol, reserved}
@@ -31,7 +31,7 @@ Halves = List Placed × List Placed
 abbrev pub and_front : Placed → Halves → Halves
 and_front t c = (t ∷ c.0, c.1)
 
--- the tokens before the first divider, and those behind it
+-- the tokens before the first divider, and those after it
 abbrev pub cut : Divider → List Placed → Option Halves
 cut d [] = None
 cut d (t ∷ ts) = if divides d t.lexeme then Some ([], ts) else option_map (and_front t) (cut d ts)
@@ -77,19 +77,19 @@ one_of m = m ∷ []
 abbrev pub more_of : MemberTree → List MemberTree → List MemberTree
 more_of m ms = m ∷ ms
 
--- what stands behind a member: a ; or a ) at the end
+-- what comes after a member: a ; or a ) at the end
 abbrev pub behind_of : Lexeme → List Placed → MemberEnd
 behind_of (symbol sign.CloseParenthesis) [] = end.Close
 behind_of (symbol sign.Semicolon) ts = end.Semicolon
 behind_of _ ts = end.Other
 
--- a member, with this behind it
+-- a member, with this after it
 abbrev pub members_with : MemberEnd → Option MemberTree → Option (List MemberTree) → Option (List MemberTree)
 members_with end.Close m ms = option_map one_of m
 members_with end.Semicolon m ms = with_both more_of m ms
 members_with end.Other m ms = None
 
--- members, and a ) behind them
+-- members, and a ) after them
 abbrev pub members_in : List Placed → Option (List MemberTree)
 members_in (n ∷ i ∷ k ∷ e ∷ ts) =
     members_with (behind_of e.lexeme ts) (member_of n.lexeme i.lexeme k.lexeme) (members_in ts)
@@ -103,7 +103,7 @@ abbrev pub bracketed_in : List Placed → Option (List MemberTree)
 bracketed_in [] = None
 bracketed_in (t ∷ ts) = bracketed_with t.lexeme ts
 
--- a type, and the members behind it
+-- a type, and the members after it
 abbrev pub Targets : Type 0
 Targets = TypeTree × List MemberTree
 
@@ -158,7 +158,7 @@ abbrev pub function_named : Lexeme → List Placed → Option FormTree
 function_named (tokens.name x) ts = function_with x (cut divider.Equal ts)
 function_named _ ts = None
 
--- behind the word function, and behind the word datatype
+-- after the word function, and after the word datatype
 abbrev pub function_in : List Placed → Option FormTree
 function_in [] = None
 function_in (t ∷ ts) = function_named t.lexeme ts
@@ -171,7 +171,7 @@ abbrev pub datatype_in : List Placed → Option FormTree
 datatype_in [] = None
 datatype_in (t ∷ ts) = datatype_named t.lexeme ts
 
--- behind a : at the front
+-- after a : at the front
 abbrev pub typed_named : Lexeme → List Placed → Option FormTree
 typed_named (tokens.name x) ts = if is_text x (codes "type") then option_map show_type (expression ts) else None
 typed_named _ ts = None

@@ -1,4 +1,4 @@
--- What a step of the code stands for.
+-- What a step of the code means.
 use Rattle.std.specs.Prelude.{◌≡◌, List, ◌∷◌, Option, Some, None, Result, Ok, Err}
 use Rattle.nesl_syntax_tree.specs.declared.parts.part.Part.{Part}
 use Rattle.nesl_syntax_open.specs.declared.pending.Opening.{Opening}
@@ -40,7 +40,7 @@ TypePopped (Some p) ps (Some q) = SeesTypeOpening p q.0 × SeesStack ps q.1
 TypePopped (Some p) ps None = ⊥
 TypePopped None ps q = q ≡ None
 
--- what a call answered is this, or there is none and the answer says so, or memory ran out
+-- what a call returned is this, or there is none and the result says so, or memory ran out
 abbrev pub PendingGiven : Result Pending ParseFault → Option Waiting → Type 0
 PendingGiven (Ok p) (Some w) = SeesPending p w
 PendingGiven (Ok p) None = ⊥

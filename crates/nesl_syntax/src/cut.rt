@@ -1,4 +1,4 @@
-// Cutting a line's tokens at a sign that stands in no part before it.
+// Cutting a line's tokens at a sign that is in no part before it.
 
 ghost use Rattle.std.specs.Prelude.{◌≡◌, Some, None, MatchOption};
 ghost use Rattle.nesl_syntax.specs.Reading.{divides, cut};
@@ -30,7 +30,7 @@ fn divides(divider: Divider, token: &Token) -> bool
     }
 }
 
-/// The tokens before the first divider, and those behind it.
+/// The tokens before the first divider, and those after it.
 pub fn cut(divider: Divider, tokens: &[Token]) -> Option<(&[Token], &[Token])>
     ensures { MatchOption result (cut divider (placed tokens.now) ≡ None)
         (λ r. cut divider (placed tokens.now) ≡ Some (placed r.0.now, placed r.1.now)) }

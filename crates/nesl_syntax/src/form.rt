@@ -51,7 +51,7 @@ fn bind(alloc: Global, name: &Name, tokens: &[Token]) -> Result<Line, ParseFault
     })
 }
 
-// A line that begins with a name: a binding, where a `=` stands behind it, or else an expression.
+// A line that begins with a name: a binding, where a `=` follows it, or else an expression.
 fn named(alloc: Global, name: &Name, tokens: &[Token], behind: &[Token]) -> Result<Line, ParseFault>
     ensures { GivesLine result (reading.bound_in name.now.letters.items (placed tokens.now) (placed behind.now)) }
 {
@@ -67,7 +67,7 @@ fn named(alloc: Global, name: &Name, tokens: &[Token], behind: &[Token]) -> Resu
     }
 }
 
-// A datatype's line behind its name.
+// A datatype's line after its name.
 fn datatype_named(alloc: Global, name: &Name, tokens: &[Token]) -> Result<Line, ParseFault>
     ensures { GivesLine result (option_map (trees.datatype name.now.letters.items)
         (machine.written_type (placed tokens.now))) }
@@ -82,7 +82,7 @@ fn datatype_named(alloc: Global, name: &Name, tokens: &[Token]) -> Result<Line, 
     }
 }
 
-// A datatype's line behind its first word.
+// A datatype's line after its first word.
 fn datatype(alloc: Global, tokens: &[Token]) -> Result<Line, ParseFault>
     ensures { GivesLine result (reading.datatype_in (placed tokens.now)) }
 {
@@ -102,7 +102,7 @@ fn is_type(name: &[u8]) -> bool
     name == b"type".as_slice()
 }
 
-// The command that asks for a type, behind its word.
+// The command that asks for a type, after its word.
 fn show_named(alloc: Global, name: &Name, tokens: &[Token]) -> Result<Line, ParseFault>
     ensures { GivesLine result (reading.typed_named (lexemes.name name.now.letters.items) (placed tokens.now)) }
 {
@@ -112,7 +112,7 @@ fn show_named(alloc: Global, name: &Name, tokens: &[Token]) -> Result<Line, Pars
     Ok(Line::ShowType(body(alloc, tokens)?))
 }
 
-// The command that asks for a type, behind its `:`.
+// The command that asks for a type, after its `:`.
 fn show_type(alloc: Global, tokens: &[Token]) -> Result<Line, ParseFault>
     ensures { GivesLine result (reading.typed_in (placed tokens.now)) }
 {
@@ -147,7 +147,7 @@ fn line(alloc: Global, tokens: &[Token]) -> Result<Line, ParseFault>
     }
 }
 
-// The command of a word that no `;` stands behind.
+// The command of a word that no `;` follows.
 fn command_named(name: &[u8]) -> Option<Line>
     ensures some { IfSome result (λ line. IsCommand name.now (line_tree line)) }
     ensures none { IfNone result ((line : FormTree) → IsCommand name.now line → ⊥) }

@@ -51,7 +51,7 @@ fn on_heap(alloc: Global, exp: Box<Exp>) -> Result<Option<Box<Pattern>>, AllocEr
     }
 }
 
-// A parameter, and a signature behind a `:`, if there is one.
+// A parameter, and a signature after a `:`, if there is one.
 fn read_head(alloc: Global, tokens: &[Token]) -> Result<Head, ParseFault>
     ensures { Given SeesHead result (reading.head_in (placed tokens.now)) }
 {
@@ -79,7 +79,7 @@ fn too_high<T: Drop>(parts: T) -> Result<Line, ParseFault>
     Err(ParseFault::Nested)
 }
 
-// The line of a pattern and what is too high or not behind it.
+// The line of a function, whose signature may be too high.
 fn function_with(
     name: Vec<u8>,
     pattern: Box<Pattern>,
@@ -129,7 +129,7 @@ fn function_of(alloc: Global, name: Vec<u8>, head: Head, body: Part) -> Result<L
     }
 }
 
-// A function's line behind its name.
+// A function's line after its name.
 fn function_named(alloc: Global, name: &Name, tokens: &[Token]) -> Result<Line, ParseFault>
     ensures { GivesLine result (reading.function_with name.now.letters.items
         (reading.cut divider.Equal (placed tokens.now))) }
@@ -143,7 +143,7 @@ fn function_named(alloc: Global, name: &Name, tokens: &[Token]) -> Result<Line, 
     function_of(alloc, name, head, body)
 }
 
-/// A function's line behind its first word.
+/// A function's line after its first word.
 pub fn function(alloc: Global, tokens: &[Token]) -> Result<Line, ParseFault>
     ensures { GivesLine result (reading.function_in (placed tokens.now)) }
 {

@@ -84,7 +84,7 @@ fn pop_type(stack: &mut Vec<Pending>) -> Option<TypeOpening>
     }
 }
 
-// One more that is open, where it may stand.
+// One more that is open, where it may come.
 #[inline(always)]
 fn open(stack: &mut Vec<Pending>, pending: Pending) -> Result<Mode, ParseFault>
     ensures { (ws : List Waiting) (w : Waiting) → SeesStack stack.old.items ws → SeesPending pending w →
@@ -116,7 +116,7 @@ fn list(stack: &mut Vec<Pending>, opening: Opening, part: Part) -> Result<Mode, 
     }
 }
 
-// Behind a comma.
+// After a comma.
 #[tactic(auto, using(crate::proofs::StepLemmas::near_comma))]
 fn separate(stack: &mut Vec<Pending>, part: Part) -> Result<Mode, ParseFault>
     ensures { (ws : List Waiting) (x : Tree) → SeesStack stack.old.items ws → Sees part x →
@@ -131,7 +131,7 @@ fn separate(stack: &mut Vec<Pending>, part: Part) -> Result<Mode, ParseFault>
     list(stack, opening, part)
 }
 
-// Behind a `(` that follows an expression.
+// After a `(` that follows an expression.
 #[inline(never)]
 fn call(stack: &mut Vec<Pending>, fresh: bool, part: Part) -> Result<Mode, ParseFault>
     ensures { (ws : List Waiting) (x : Tree) → SeesStack stack.old.items ws → Sees part x →
@@ -155,7 +155,7 @@ fn call(stack: &mut Vec<Pending>, fresh: bool, part: Part) -> Result<Mode, Parse
     }
 }
 
-// The level at which what stands before a token is put together.
+// The level at which what comes before a token is put together.
 fn level_at(mark: Mark) -> u8
     ensures { result ≡ mark_level mark }
 {
@@ -165,7 +165,7 @@ fn level_at(mark: Mark) -> u8
     }
 }
 
-// Behind a `[` that follows an expression.
+// After a `[` that follows an expression.
 #[inline(never)]
 fn index(stack: &mut Vec<Pending>, part: Part) -> Result<Mode, ParseFault>
     ensures { (ws : List Waiting) (x : Tree) → SeesStack stack.old.items ws → Sees part x →
@@ -174,7 +174,7 @@ fn index(stack: &mut Vec<Pending>, part: Part) -> Result<Mode, ParseFault>
     open(stack, Pending::Open(Opening::Index(part)))
 }
 
-// A comma behind an expression.
+// A comma after an expression.
 #[inline(never)]
 fn follow_comma(alloc: Global, stack: &mut Vec<Pending>, part: Part) -> Result<Mode, ParseFault>
     ensures { (ws : List Waiting) (x : Tree) → SeesStack stack.old.items ws → Sees part x →
@@ -184,7 +184,7 @@ fn follow_comma(alloc: Global, stack: &mut Vec<Pending>, part: Part) -> Result<M
     separate(stack, part)
 }
 
-// An operator behind an expression.
+// An operator after an expression.
 #[inline(never)]
 fn follow_operator(
     alloc: Global,
@@ -205,7 +205,7 @@ fn follow_operator(
     )
 }
 
-// A token that ends a part, behind an expression. It is what most tokens are, and so stands in place.
+// A token that ends a part, after an expression. Most tokens are such; so it is inlined.
 #[inline(always)]
 fn follow_mark(
     alloc: Global,
@@ -221,7 +221,7 @@ fn follow_mark(
     end_part(alloc, stack, part, mark, at)
 }
 
-// A token behind an expression. What each but a mark does stands in a function of its own, for a function pays at each
+// A token after an expression. What each but a mark does is in a function of its own, for a function pays at each
 // call for all that it may hold.
 fn follow(
     alloc: Global,
@@ -508,7 +508,7 @@ fn begin_written(alloc: Global, stack: &mut Vec<Pending>, token: &Token) -> Resu
     }
 }
 
-// Whether a comma may stand behind a type there.
+// Whether a comma may come after a type there.
 fn has_commas(pending: &Pending) -> bool
     ensures { (w : Waiting) → SeesPending pending.now w → result ≡ machine.has_commas w }
 {
@@ -530,7 +530,7 @@ fn newest_has_commas(stack: &[Pending]) -> bool
     }
 }
 
-// A comma behind a type.
+// A comma after a type.
 fn separate_types(stack: &mut Vec<Pending>, part: TypePart) -> Result<Mode, ParseFault>
     ensures { (ws : List Waiting) (a : TypeTree) → SeesStack stack.old.items ws → SeesType part a →
         Follows result stack.new.items (type_separated ws a) }
@@ -560,7 +560,7 @@ fn bracketed(
     }
 }
 
-// A `]` behind a type.
+// A `]` after a type.
 fn bracket(
     alloc: Global,
     stack: &mut Vec<Pending>,
@@ -577,7 +577,7 @@ fn bracket(
     end_type(alloc, stack, part)
 }
 
-// A `)` behind a type.
+// A `)` after a type.
 fn close_types(
     alloc: Global,
     stack: &mut Vec<Pending>,
@@ -603,7 +603,7 @@ fn close_types(
     }
 }
 
-// A token behind a type.
+// A token after a type.
 #[inline(never)]
 fn follow_type(
     alloc: Global,
@@ -669,7 +669,7 @@ fn run(
     Ok(mode)
 }
 
-// The expression that stands behind the last token, where nothing is open any more.
+// The expression at the end of the tokens, where nothing is open any more.
 fn finish(alloc: Global, stack: &mut Vec<Pending>, mode: Mode) -> Result<Part, ParseFault>
     ensures { (ws : List Waiting) (m : machine.Mode) → SeesStack stack.old.items ws → SeesMode mode m →
         GivesTree result (machine.tree_left_in ws m) }
@@ -702,7 +702,7 @@ pub fn expression(alloc: Global, tokens: &[Token]) -> Result<Part, ParseFault>
     finish(alloc, &mut stack, mode)
 }
 
-// The type that stands behind the last token, where nothing is open any more.
+// The type at the end of the tokens, where nothing is open any more.
 fn finish_type(stack: &[Pending], mode: Mode) -> Result<TypePart, ParseFault>
     ensures { (ws : List Waiting) (m : machine.Mode) → SeesStack stack.now ws → SeesMode mode m →
         TypeGiven result (machine.type_left_in ws m) }

@@ -27,14 +27,13 @@ pub enum SignaturePart {
     High,
 }
 
-/// What stands behind a signature's `->`.
+/// What comes after a signature's `->`.
 #[derive(Drop)]
 pub struct Target {
     pub to: TypePart,
     pub members: Vec<Member>,
 }
 
-// The class of this name.
 fn class_named(name: &[u8]) -> Option<Class>
     ensures some { IfSome result (λ k. name.now ≡ class_text k) }
     ensures none { IfNone result ((k : class.Class) → name.now ≢ class_text k) }
@@ -91,7 +90,7 @@ fn member(name: &Token, word: &Token, class: &Token) -> Result<Member, ParseFaul
     }
 }
 
-/// What stands behind a member.
+/// What comes after a member.
 #[derive(Clone, Copy, PartialEq, Eq)]
 enum MemberEnd {
     /// A `)`, and nothing more.
@@ -100,7 +99,7 @@ enum MemberEnd {
     Other,
 }
 
-// What a token and those behind it are.
+// What a token and those after it are.
 fn behind_of(token: &Token, rest: &[Token]) -> MemberEnd
     ensures { result ≡ reading.behind_of (lexeme_of token.now.kind) (placed rest.now) }
 {
@@ -117,7 +116,7 @@ fn behind_of(token: &Token, rest: &[Token]) -> MemberEnd
     }
 }
 
-// Members with `;` between, and a `)` behind them.
+// Members with `;` between, and a `)` after them.
 fn members(alloc: Global, tokens: &[Token]) -> Result<Vec<Member>, ParseFault>
     ensures { Given (λ v. SeesMembers v.items) result (reading.members_in (placed tokens.now)) }
 {
@@ -150,7 +149,7 @@ fn bracketed(alloc: Global, tokens: &[Token]) -> Result<Vec<Member>, ParseFault>
     }
 }
 
-// A type, and the members behind a `::`, if there is one.
+// A type, and the members after a `::`, if there is one.
 fn read_target(alloc: Global, tokens: &[Token]) -> Result<Target, ParseFault>
     ensures { Given SeesTarget result (reading.target_in (placed tokens.now)) }
 {

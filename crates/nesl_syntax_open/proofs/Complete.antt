@@ -95,7 +95,7 @@ level_high operator.Times = omega arith
 level_high operator.Divide = omega arith
 level_high operator.Read = omega arith
 
--- what waits where commas may stand has no operator and no choice behind it
+-- what waits where commas may come has no operator and no choice after it
 rank_below_2 : (w : Waiting) → wanted_by w ≤ 1 → rank w < 2
 rank_below_2 (open_at o) h = omega arith
 rank_below_2 (comma_behind a) h = omega arith
@@ -105,7 +105,7 @@ rank_below_2 (prefix_at o s) h = absurd (omega arith)
 rank_below_2 (sign_behind o a) h = absurd (omega (arith, level_low o))
 rank_below_2 (type_at o) h = omega arith
 
--- what waits where an operator of a level may stand is below that level
+-- what waits where an operator of a level may come is below that level
 rank_below : (w : Waiting) (n : ℕ) → 3 ≤ n → n ≤ 7 → wanted_by w ≤ n → rank w < n
 rank_below (open_at o) n i k h = omega arith
 rank_below (comma_behind a) n i k h = omega arith
@@ -158,7 +158,7 @@ pub wanted_small : (ws : List Waiting) → wanted ws ≤ 10
 wanted_small [] = omega arith
 wanted_small (w ∷ ws) = wanted_low w
 
--- a comma behind what isn't a list
+-- a comma after what isn't a list
 pub comma_opens : (ws : List Waiting) (e : Tree) → wanted ws ≤ 1 → separated ws e ≡ Some (comma_behind e ∷ ws, before)
 comma_opens [] e h = absurd (omega arith)
 comma_opens (open_at (list s xs) ∷ ws) e h = absurd (omega arith)
@@ -185,7 +185,7 @@ joins_at operator.Times = refl
 joins_at operator.Divide = refl
 joins_at operator.Read = refl
 
--- the steps behind an expression that folds to a known one
+-- the steps after an expression that folds to a known one
 step_pairs : {ns ws : List Waiting} {b : Bool} {x a : Tree} (s : Span) → folded 2 ns x ≡ (ws, a) → wanted ws ≤ 1 → Steps (ns, behind b x) (sign_at sign.Comma s) (comma_behind a ∷ ws, before)
 step_pairs {ws = ws} {a = a} s e h = record { steps = rw e (comma_opens ws a h) }
 
@@ -198,14 +198,14 @@ step_joins {ns = ns} {ws = ws} {b = b} {x = x} {a = a} o s e h = record { steps 
 step_indexes : {ns ws : List Waiting} {b : Bool} {x a : Tree} (s : Span) → folded 9 ns x ≡ (ws, a) → wanted ws ≤ 9 → Steps (ns, behind b x) (sign_at sign.OpenBracket s) (open_at (index_of a) ∷ ws, before)
 step_indexes {ns = ns} {ws = ws} {x = x} {a = a} s e h = record { steps = ap (on_both (λ (vs : List Waiting) (y : Tree). opened (open_at (index_of y)) vs)) (sym (left_at_index ns x) ∙ e) ∙ opens (open_at (index_of a)) ws h }
 
--- a mark behind what folds to an opening and its last part
+-- a mark after what folds to an opening and its last part
 step_marks : {ns ws : List Waiting} {b : Bool} {x a : Tree} {o : Opening} {w : Waiting} (m : Mark) (t : Placed) → follow_of t.lexeme ≡ follow.Mark m → folded (mark_level m) ns x ≡ (open_at o ∷ ws, a) → turned m t.span o a ≡ Some (becomes w) → Steps (ns, behind b x) t (w ∷ ws, before)
 step_marks {ns = ns} {ws = ws} {b = b} {x = x} m t k e h = record { steps = ap (λ f. followed f ns b x t.span) k ∙ ap (on_both (marked m t.span)) e ∙ ap (taken_up ws) h }
 
 step_ends : {ns ws : List Waiting} {b : Bool} {x a y : Tree} {o : Opening} (m : Mark) (t : Placed) → follow_of t.lexeme ≡ follow.Mark m → folded (mark_level m) ns x ≡ (open_at o ∷ ws, a) → turned m t.span o a ≡ Some (ends y) → Steps (ns, behind b x) t (ws, behind false y)
 step_ends {ns = ns} {ws = ws} {b = b} {x = x} m t k e h = record { steps = ap (λ f. followed f ns b x t.span) k ∙ ap (on_both (marked m t.span)) e ∙ ap (taken_up ws) h }
 
--- behind these tokens stands a state that folds to the tree, at each level up to this one
+-- these tokens lead to a state that folds to the tree, at each level up to this one
 pub record Comes (ws : List Waiting) (ts : List Placed) (n : ℕ) (e : Tree) : Type 0 where
   pub now : List Waiting
   pub fresh : Bool
@@ -333,7 +333,7 @@ pub record ListComes (s : Span) (ws : List Waiting) (us : List Placed) (xs : Tre
   pub folds : folded 2 now last ≡ (open_at (list s earlier) ∷ ws, item)
   pub all : with_last earlier item ≡ xs
 
--- what stands between a pattern and what it is bound to
+-- the sign between a pattern and what it is bound to
 abbrev pub separator : Group → Lexeme
 separator (let_group s) = symbol sign.Equal
 separator (each_group s b) = reserved word.In
@@ -350,7 +350,7 @@ separator_level : (g : Group) → mark_level (separator_mark g) ≡ 2
 separator_level (let_group s) = refl
 separator_level (each_group s b) = refl
 
--- where the first pattern of a group may stand
+-- where the first pattern of a group may come
 pub record Begins (g : Group) (o : Opening) (bs : Binders) : Type 0 where
   pub binds : (t : Span) (p : PatternTree) → turned (separator_mark g) t o (tree_of_pattern p) ≡ Some (becomes (open_at (value g bs p)))
 

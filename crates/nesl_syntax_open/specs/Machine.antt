@@ -49,7 +49,7 @@ pub data TypeOpening : Type 0 where
   type_round : Span → TypeOpening
   type_comma : TypeTree → TypeOpening
 
--- what is open: it waits for what stands behind it
+-- what is open: it waits for what comes after it
 pub data Waiting : Type 0 where
   open_at : Opening → Waiting
   comma_behind : Tree → Waiting
@@ -59,7 +59,7 @@ pub data Waiting : Type 0 where
   sign_behind : Operator → Tree → Waiting
   type_at : TypeOpening → Waiting
 
--- the level of what may stand behind it; a pattern stands where an atom does
+-- the level of what may come after it; a pattern comes where an atom does
 abbrev pub opening_wants : Opening → ℕ
 opening_wants (round s) = 1
 opening_wants (call x s) = 1
@@ -97,7 +97,7 @@ begun_by (prefix_at o s) = 8
 begun_by (sign_behind o a) = level_of o
 begun_by (type_at o) = 10
 
--- the level of what it is once its last part has come, or 0 where more tokens must come behind that part
+-- the level of what it is once its last part is there, or 0 where more tokens must follow that part
 abbrev pub rank : Waiting → ℕ
 rank (open_at o) = 0
 rank (comma_behind a) = 1
@@ -117,7 +117,7 @@ completed (prefix_at o s) e = node (spanning s (span_of e)) (trees.prefix_of o e
 completed (sign_behind o a) e = node (spanning (span_of a) (span_of e)) (trees.infix_of o a e)
 completed (type_at o) e = e
 
--- the level of what may stand at this place; the newest that waits comes first
+-- the level of what may come at this place; the newest that waits is first
 abbrev pub wanted : List Waiting → ℕ
 wanted [] = 2
 wanted (w ∷ ws) = wanted_by w
@@ -127,7 +127,7 @@ abbrev pub folded : ℕ → List Waiting → Tree → List Waiting × Tree
 folded n [] e = ([], e)
 folded n (w ∷ ws) e = if nat_le n (rank w) then folded n ws (completed w e) else (w ∷ ws, e)
 
--- an expression is to come, or stands before this place; then it may be a name, and nothing else behind it;
+-- an expression is to come, or is before this place; then it may be a name with nothing after it;
 -- the same of a type
 pub data Mode : Type 0 where
   before : Mode
@@ -145,7 +145,7 @@ abbrev pub called : List Waiting → Tree → Option State
 called ws (node s (trees.variable x)) = opened (open_at (call x s)) ws
 called ws _ = None
 
--- what comes of an opening: something else is open, or the tree of it
+-- what an opening becomes: another opening, or its tree
 pub data Turn : Type 0 where
   becomes : Waiting → Turn
   ends : Tree → Turn
@@ -154,7 +154,7 @@ abbrev pub bound : Group → Binders → Option PatternTree → Option Turn
 bound g bs (Some p) = Some (becomes (open_at (value g bs p)))
 bound g bs None = None
 
--- an opening with an expression and this token at t behind it
+-- an opening with an expression and this token at t after it
 abbrev pub turned : Mark → Span → Opening → Tree → Option Turn
 turned mark.CloseParenthesis t (round s) e = Some (ends (tree_on (spanning s t) e))
 turned mark.CloseParenthesis t (call x s) e = Some (ends (node (spanning s t) (trees.call x e)))
@@ -187,7 +187,7 @@ abbrev pub marked : Mark → Span → List Waiting → Tree → Option State
 marked m t (open_at o ∷ ws) e = taken_up ws (turned m t o e)
 marked m t _ e = None
 
--- behind a comma
+-- after a comma
 abbrev pub separated : List Waiting → Tree → Option State
 separated (open_at (list s xs) ∷ ws) e = Some (open_at (list s (with_last xs e)) ∷ ws, before)
 separated ws e = opened (comma_behind e) ws
@@ -208,7 +208,7 @@ on_both f r = f r.0 r.1
 abbrev pub joined : Operator → List Waiting → Tree → Option State
 joined o ws e = on_both (λ vs x. opened (sign_behind o x) vs) (folded (level_of o) ws e)
 
--- behind an expression
+-- after an expression
 abbrev pub followed : Follow → List Waiting → Bool → Tree → Span → Option State
 followed follow.Call ws b e s = if b then called ws e else None
 followed follow.Index ws b e s = opened (open_at (index_of e)) ws
@@ -221,7 +221,7 @@ abbrev pub with_newest : Mode → List Waiting → Option Waiting → Option Sta
 with_newest m ws (Some w) = Some (w ∷ ws, m)
 with_newest m ws None = None
 
--- in behind the ; of a let
+-- in after the ; of a let
 abbrev pub let_body : Opening → Option Waiting
 let_body (binders (let_group s) (binder p e bs)) = Some (body_of s (binder p e bs))
 let_body _ = None
@@ -230,7 +230,7 @@ abbrev pub let_closed : List Waiting → Option State
 let_closed (open_at o ∷ ws) = with_newest before ws (let_body o)
 let_closed _ = None
 
--- ] directly behind [
+-- ] directly after [
 abbrev pub empty_opening : Opening → Option Waiting
 empty_opening (list s none) = Some (type_at (empty_at s))
 empty_opening _ = None
@@ -281,7 +281,7 @@ typed_with ws s (symbol sign.OpenBracket) = Some (type_at (type_list s) ∷ ws, 
 typed_with ws s (symbol sign.OpenParenthesis) = Some (type_at (type_round s) ∷ ws, typing)
 typed_with ws s _ = None
 
--- where a comma may stand behind a type
+-- where a comma may come after a type
 abbrev pub has_commas : Waiting → Bool
 has_commas (type_at (type_round s)) = true
 has_commas (type_at (type_comma b)) = true
@@ -312,7 +312,7 @@ type_closed (type_at (type_comma b) ∷ ws) t a = type_closed ws t (type_pair b 
 type_closed (type_at (type_round s) ∷ ws) t a = Some (type_done ws (type_on (spanning s t) a))
 type_closed _ t a = None
 
--- behind a type
+-- after a type
 abbrev pub typed_on : List Waiting → TypeTree → Span → Lexeme → Option State
 typed_on ws a s (symbol sign.Comma) = type_separated ws a
 typed_on ws a s (symbol sign.CloseBracket) = type_bracketed ws s a

@@ -1,4 +1,4 @@
--- What a token does behind an expression.
+-- What a token does after an expression.
 use Rattle.nesl_lex.specs.Tokens.{Lexeme, reserved, symbol}
 use Rattle.nesl_lex.specs.declared.token.Word.TheVariants as word
 use Rattle.nesl_lex.specs.declared.token.Sign.TheVariants as sign
@@ -7,7 +7,7 @@ use Rattle.nesl_syntax_open.specs.declared.mark.Mark.TheVariants as mark
 use Rattle.nesl_syntax_open.specs.declared.mark.Follow.{Follow}
 use Rattle.nesl_syntax_open.specs.declared.mark.Follow.TheVariants as follow
 
--- what a token does behind an expression
+-- what a token does after an expression
 abbrev pub follow_of : Lexeme → Follow
 follow_of (symbol sign.OpenParenthesis) = follow.Call
 follow_of (symbol sign.OpenBracket) = follow.Index

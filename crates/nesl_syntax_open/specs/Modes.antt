@@ -1,4 +1,4 @@
--- What a step of the code stands for.
+-- What a step of the code means.
 use Rattle.std.specs.Prelude.{◌≡◌, List, Option, Some, None, Result, Ok, Err}
 use Rattle.nesl_syntax_open.specs.declared.pending.Pending.{Pending}
 use Rattle.nesl_syntax_open.specs.declared.mode.Mode.{Mode}
@@ -17,7 +17,7 @@ SeesMode (Behind b p) m = (e : Tree) × (m ≡ behind b e) × Sees p e
 SeesMode Typing m = m ≡ typing
 SeesMode (Typed p) m = (a : TypeTree) × (m ≡ typed a) × SeesType p a
 
--- what a call answered and left is the state after a step, or there is none and the answer says so, or memory ran out
+-- what a call returned and left is the state after a step, or there is none and the result says so, or memory ran out
 abbrev pub Follows : Result Mode ParseFault → List Pending → Option State → Type 0
 Follows (Ok m) ps (Some q) = SeesStack ps q.0 × SeesMode m q.1
 Follows (Ok m) ps None = ⊥

@@ -1,4 +1,4 @@
--- What the code's list of what is open stands for.
+-- What the code's list of open constructs means.
 use Rattle.std.specs.Prelude.{◌≡◌, ℕ, Bool, true, false, List, [], ◌∷◌, ◌++◌, reverse, Option}
 use Rattle.nesl_syntax_tree.specs.declared.parts.part.Part.{Part}
 use Rattle.nesl_syntax_open.specs.declared.pending.Group.{Group}

@@ -1,4 +1,4 @@
--- What a token leaves behind the value of a binder.
+-- What a token leaves after the value of a binder.
 use Rattle.std.specs.Prelude.{Option, Some, None}
 use Rattle.nesl_lex.specs.declared.token.Span.{Span}
 use Rattle.nesl_syntax_open.specs.declared.mark.Mark.{Mark}

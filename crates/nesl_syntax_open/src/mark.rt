@@ -1,4 +1,4 @@
-// What a token does behind an expression.
+// What a token does after an expression.
 
 ghost use Rattle.std.specs.Prelude.{◌≡◌};
 ghost use Rattle.nesl_lex.specs.Tokens.{lexeme_of, symbol, reserved};
@@ -22,7 +22,7 @@ pub enum Mark {
     In,
 }
 
-/// What a token does behind an expression.
+/// What a token does after an expression.
 #[derive(Clone, Copy)]
 pub enum Follow {
     /// A `(`.
@@ -82,7 +82,7 @@ fn of_word(word: Word) -> Follow
     }
 }
 
-/// What a token does behind an expression.
+/// What a token does after an expression.
 pub fn follow_of(kind: &Kind) -> Follow
     ensures { result ≡ follow_of (lexeme_of kind.now) }
 {

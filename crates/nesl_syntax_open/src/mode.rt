@@ -15,11 +15,11 @@ use nesl_syntax_tree::parts::types::TypePart;
 pub enum Mode {
     /// An expression is to come.
     Before,
-    /// An expression stands before this place, and whether it is a name and nothing else.
+    /// An expression is before this place, and whether it is just a name.
     Behind { fresh: bool, part: Part },
     /// A type is to come.
     Typing,
-    /// A type stands before this place.
+    /// A type is before this place.
     Typed(TypePart),
 }
 

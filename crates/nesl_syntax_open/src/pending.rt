@@ -26,7 +26,7 @@ pub enum Group {
     Each { from: Span, body: Option<Part> },
 }
 
-/// What is open and must be closed by a token, with its parts so far. It stands from the span on, or from its word on.
+/// What is open and must be closed by a token, with its parts so far. It begins with the span, or with its word.
 #[derive(Drop)]
 pub enum Opening {
     Round(Span),
@@ -56,7 +56,7 @@ pub enum Opening {
         stop: Part,
     },
     Brace(Span),
-    /// A pattern is to come, and whether binders stand before it.
+    /// A pattern is to come, and whether there are binders before it.
     Binders {
         some: bool,
         group: Group,
@@ -74,7 +74,7 @@ pub enum Opening {
     },
 }
 
-/// What is open in a type and must be closed by a token: a bracket from the span on, or what a comma stands behind.
+/// What is open in a type and must be closed by a token: a bracket from the span on, or what a comma follows.
 #[derive(Drop)]
 pub enum TypeOpening {
     Empty(Span),
@@ -83,7 +83,7 @@ pub enum TypeOpening {
     Comma(TypePart),
 }
 
-/// What is open: it waits for what stands behind it.
+/// What is open: it waits for what comes after it.
 #[derive(Drop)]
 pub enum Pending {
     Open(Opening),
@@ -113,7 +113,7 @@ pub fn level_of(operator: Operator) -> u8
     }
 }
 
-// The level of what may stand behind it.
+// The level of what may come after it.
 fn opening_wants(opening: &Opening) -> u8
     ensures { (o : machine.Opening) → SeesOpening opening.now o → result ≡ opening_wants o }
 {
@@ -124,7 +124,7 @@ fn opening_wants(opening: &Opening) -> u8
     }
 }
 
-// The level of what may stand behind it.
+// The level of what may come after it.
 fn level_behind(pending: &Pending) -> u8
     ensures { (w : Waiting) → SeesPending pending.now w → result ≡ wanted_by w }
 {
@@ -174,7 +174,7 @@ pub fn level_begun(pending: &Pending) -> u8
     }
 }
 
-// The level of what it is once its last part has come, or 0 where more tokens must come behind that part.
+// The level of what it is once its last part is there, or 0 where more tokens must follow that part.
 fn rank(pending: &Pending) -> u8
     ensures { (w : Waiting) → SeesPending pending.now w → result ≡ machine.rank w }
 {
@@ -222,7 +222,7 @@ pub fn newest(stack: &[Pending]) -> Option<&Pending>
     stack.last()
 }
 
-/// The level of what may stand at this place.
+/// The level of what may come at this place.
 pub fn wanted(stack: &[Pending]) -> u8
     ensures { (ws : List Waiting) → SeesStack stack.now ws → result ≡ machine.wanted ws }
 {
@@ -284,7 +284,7 @@ fn fold_open(
     Ok(part)
 }
 
-/// Puts together what is complete at this level. Behind most tokens nothing is, which is told in place.
+/// Puts together what is complete at this level. After most tokens nothing is; that test is inlined.
 #[inline(always)]
 pub fn fold(
     alloc: Global,

@@ -1,4 +1,4 @@
-// What comes of the newest opening when an expression and a token that ends a part stand behind it.
+// What the newest opening becomes when an expression and a token that ends a part follow it.
 
 ghost use Rattle.std.specs.Prelude.{◌≡◌, ◌∷◌, List, Option, Some, None, Err, false, true, if◌then◌else◌};
 ghost use Rattle.nesl_syntax_tree.specs.Trees.{Tree, Trees, Binders, PatternTree, no_binders, with_last};
@@ -29,7 +29,7 @@ use nesl_syntax_tree::parts::part::{
 use nesl_syntax_tree::parts::pattern::{PatternPart, pattern_of};
 use std::alloc::Global;
 
-/// A token that ends a part, and where it stands; and where memory for what it makes comes from.
+/// A token that ends a part, and where it is; and where memory for what it makes comes from.
 #[derive(Clone, Copy)]
 struct End {
     alloc: Global,
@@ -283,7 +283,7 @@ fn end_brace(stack: &mut Vec<Pending>, from: Span, part: Part, end: End) -> Resu
     }
 }
 
-// Whether the token stands between a binder's pattern and its value.
+// Whether the token comes between a binder's pattern and its value.
 fn begins_value(group: &Group, mark: Mark) -> bool
     ensures { (g : machine.Group) (bs : Binders) (s : Span) (x : Tree) → SeesGroup group.now g →
         turned mark s (machine.binders g bs) x ≡ (if result then machine.bound g bs (pattern_in x) else None) }
@@ -318,7 +318,7 @@ fn end_pattern(
     bind(stack, group, bindings, part)
 }
 
-// Behind the value of a binder of a let.
+// After the value of a binder of a let.
 fn end_let_value(
     stack: &mut Vec<Pending>,
     bindings: Bindings,
@@ -345,7 +345,7 @@ fn end_let_value(
     }
 }
 
-// Behind the value of a binder of an apply-to-each.
+// After the value of a binder of an apply-to-each.
 fn end_each_value(
     stack: &mut Vec<Pending>,
     body: Option<Part>,

@@ -38,7 +38,7 @@ mutual
   reads_shape (trees.call x a) h = let p = reads_of a h in record { form = trees.record_pattern x p.form; reads = rw p.reads refl; high = omega (arith, p.high) }
   reads_shape _ h = cc
 
--- any other is not
+-- an expression of another kind is no pattern
 no_pair : (a b : Option PatternTree) → ((a ≡ None) ⊎ (b ≡ None)) → shape_pair a b ≡ None
 no_pair None b h = refl
 no_pair (Some a) None h = refl

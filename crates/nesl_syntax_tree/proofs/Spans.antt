@@ -35,7 +35,7 @@ to_place : {i j : ℕ} {xs : List Item} (k : ℕ) → j ≤ k → Lined i xs j �
 to_place k h (none_lined g) = none_lined (omega arith)
 to_place k h (more_lined g o r) = more_lined g o (to_place k h r)
 
--- one row behind another
+-- one row after another
 behind : {i m n j : ℕ} {xs ys : List Item} → Lined i xs m → m ≤ n → Lined n ys j → Lined i (xs ++ ys) j
 behind (none_lined g) h r = from_place _ (omega arith) r
 behind (more_lined g o l) h r = more_lined g o (behind l h r)
@@ -78,7 +78,7 @@ parted : {i j : ℕ} (us vs : List Placed) → InOrder i (us ++ vs) j → Parted
 parted {i = i} [] vs h = record { mid = i; first = none_left (omega arith); rest = h }
 parted (u ∷ us) vs (more_left a b r) = let p = parted us vs r in record { mid = p.mid; first = more_left a b p.first; rest = p.rest }
 
--- a token and what is behind it
+-- a token and what is after it
 record Fronted (i : ℕ) (t : Placed) (ts : List Placed) (j : ℕ) : Type 0 where
   low : i ≤ t.span.start
   own : t.span.start ≤ t.span.end

@@ -1,6 +1,6 @@
 -- The grammar: which tokens are which tree, a case for each production.
 -- Levels of an expression, from the loosest: 1 expressions with commas between, 2 an expression, 3 to 7 the operators,
--- 8 an operator before, 9 an index behind, 10 an atom. A phrase of a tighter level is one of each looser level.
+-- 8 an operator before, 9 an index after, 10 an atom. A phrase of a tighter level is one of each looser level.
 -- The form of expressions is the NESL report's; the levels of the operators and the forms of lines are this profile's.
 use Rattle.std.specs.Prelude.{ℕ, suc, List, [], ◌∷◌, ◌++◌, Bool}
 use Rattle.nesl_lex.specs.Tokens.{Placed, Lexeme, reserved, symbol}
@@ -143,7 +143,7 @@ mutual
         → AreBinders (symbol sign.Equal) us bs → IsExpression 2 vs e
         → IsExpression 2 (word_at word.Let i ∷ (us ++ (word_at word.In t ∷ vs)))
         (node (spanning i (span_of e)) (trees.let_in bs e))
-    -- a ; may stand before in
+    -- a ; may come before in
     closed_lets : {us vs : List Placed} {bs : Binders} {e : Tree} (i s t : Span)
         → AreBinders (symbol sign.Equal) us bs → IsExpression 2 vs e
         → IsExpression 2 (word_at word.Let i ∷ (us ++ (sign_at sign.Semicolon s ∷ (word_at word.In t ∷ vs))))
@@ -216,7 +216,7 @@ mutual
         → AreElements us xs → IsExpression 2 vs a
         → AreElements (us ++ (sign_at sign.Comma s ∷ vs)) (with_last xs a)
 
-  -- patterns, each with this token and an expression behind it, and ; between
+  -- patterns, each with this token and an expression after it, and ; between
   pub data AreBinders : Lexeme → List Placed → Binders → Type 0 where
     one_binder : {x : Lexeme} {us vs : List Placed} {p : PatternTree} {e : Tree} (s : Span)
         → IsPattern us p → IsExpression 2 vs e

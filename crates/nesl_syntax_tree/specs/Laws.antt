@@ -6,7 +6,7 @@ use Rattle.nesl_syntax_tree.specs.Trees.{FormTree}
 use Rattle.nesl_syntax_tree.specs.Lines.{IsForm}
 use Rattle.nesl_syntax_tree.specs.Spans.{Lined, line_items}
 
--- a line's nodes stand within it, one behind another, and within each node its parts
+-- a line's nodes lie within it, one after another, and within each node its parts
 abbrev pub OrderlySpans : Type 0
 OrderlySpans =
     (line : List ℕ) (ts : List Placed) (l : FormTree) → HasTokens line ts → IsForm ts l

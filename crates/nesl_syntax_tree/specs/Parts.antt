@@ -1,4 +1,4 @@
--- What the code's parts stand for: a tree, or that the tree is too high to be built.
+-- What the code's parts mean: a tree, or that the tree is too high to be built.
 use Rattle.std.specs.Prelude.{◌≡◌, ◌≤◌, ◌<◌, Option, Some, None}
 use Rattle.nesl_syntax_tree.specs.declared.parts.part.Part.{Part}
 use Rattle.nesl_syntax_tree.specs.declared.parts.part.Part.TheVariants as part
@@ -41,7 +41,7 @@ abbrev pub SeesType : TypePart → TypeTree → Type 0
 SeesType (types.Built h a) t = (type_tree a.value ≡ t) × (h ≡ type_height t) × (h ≤ 100)
 SeesType types.High t = 100 < type_height t
 
--- a pattern that was given, and the one that was wanted
+-- the pattern that a call returned, and the one that the tokens have
 abbrev pub PatternGiven : Option PatternPart → Option PatternTree → Type 0
 PatternGiven (Some p) (Some t) = SeesPattern p t
 PatternGiven None None = Unit {0}

@@ -1,4 +1,4 @@
--- Where the nodes of a line stand: each node's parts within its span, one behind another.
+-- Where the nodes of a line are: each node's parts within its span, one after another.
 use Rattle.std.specs.Prelude.{ℕ, ◌≤◌, List, [], ◌∷◌, ◌++◌, Option, Some, None}
 use Rattle.nesl_lex.specs.declared.token.Span.{Span}
 use Rattle.nesl_syntax_tree.specs.Trees.{Tree, Shape, Trees, Binders, PatternTree, PatternShape, TypeTree, TypeShape}
@@ -27,7 +27,7 @@ abbrev pub bound_items : Binders → List Item
 bound_items trees.no_binders = []
 bound_items (trees.binder p e bs) = pattern_item p ∷ (exp_item e ∷ bound_items bs)
 
--- the body of an apply-to-each that has none stands nowhere in the line
+-- an apply-to-each without a body has no node for it in the line
 abbrev pub body_items : Tree → List Item
 body_items (node s trees.element) = []
 body_items e = exp_item e ∷ []
@@ -66,7 +66,7 @@ parts_of (pattern_item (pattern s k)) = pattern_items k
 parts_of (type_item (written s k)) = type_items k
 parts_of (token_item s) = []
 
--- nodes between these places, one behind another, and within each its parts so
+-- nodes between these places, one after another, and so the parts within each
 mutual
   pub data Lined : ℕ → List Item → ℕ → Type 0 where
     none_lined : {i j : ℕ} → i ≤ j → Lined i [] j

@@ -72,7 +72,7 @@ type_span (written s k) = s
 abbrev pub pattern_span : PatternTree → Span
 pattern_span (pattern s k) = s
 
--- the same node, standing in these bytes
+-- the same node, with this span
 abbrev pub tree_on : Span → Tree → Tree
 tree_on s (node t k) = node s k
 

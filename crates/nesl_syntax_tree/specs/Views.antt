@@ -1,4 +1,4 @@
--- The trees that the code's values stand for.
+-- The trees that the code's values mean.
 use Rattle.std.specs.Prelude.{List, [], ◌∷◌, option_map, map}
 use Rattle.nesl_syntax_tree.specs.declared.tree.TypeExp.{TypeExp}
 use Rattle.nesl_syntax_tree.specs.declared.tree.TypeNode.{TypeNode}

@@ -43,7 +43,7 @@ pub enum Class {
     Logical,
 }
 
-/// A type as it is written, with the bytes that it stands in.
+/// A type as it is written, with its bytes in the line.
 #[cycle(written)]
 #[derive(Debug)]
 pub struct TypeExp {
@@ -67,7 +67,7 @@ pub enum TypeNode {
     Int,
     Bool,
     Char,
-    /// A name, and where its token stands, which parentheses don't widen.
+    /// A name, and where its token is, which parentheses don't widen.
     Name {
         name: Name,
         token: Span,
@@ -79,7 +79,7 @@ pub enum TypeNode {
     },
 }
 
-/// A pattern, with the bytes that it stands in.
+/// A pattern, with its bytes in the line.
 #[cycle(pattern)]
 #[derive(Debug)]
 pub struct Pattern {
@@ -112,7 +112,7 @@ pub enum PatternNode {
     },
 }
 
-/// An expression, with the bytes that it stands in.
+/// An expression, with its bytes in the line.
 #[cycle(tree)]
 #[derive(Debug)]
 pub struct Exp {
@@ -130,7 +130,7 @@ impl Drop for Exp {
 }
 
 impl Exp {
-    /// The bytes that it stands in, and what it is.
+    /// Its bytes in the line, and what it is.
     pub fn into_parts(self) -> (Span, Node)
         ensures span { result.0 ≡ self.span }
         ensures node { result.1 ≡ self.node }
@@ -205,7 +205,7 @@ pub enum Node {
         body: Box<Exp>,
         bindings: Vec<Binding>,
     },
-    /// An apply-to-each with a filter, which stands last.
+    /// An apply-to-each with a filter, which comes last.
     FilteredEach {
         body: Box<Exp>,
         bindings: Vec<Binding>,

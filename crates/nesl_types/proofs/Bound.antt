@@ -16,7 +16,7 @@ module _ {K V P : Type 0} (bytes : K → List ℕ) (top : V → Top) (payload : 
   pub shown_at : (es : List (K × V)) (i : ℕ) (o : Option (K × V)) → o ≡ slice_get es i → option_map shown o ≡ slice_get (map shown es) i
   shown_at es i o e = ap (option_map shown) e ∙ sym (slice_get-map shown es i)
 
-  -- what the map finds is what the list says
+  -- the map finds what the list has
   pub found-shown : (name : List ℕ) (es : List (K × V)) → option_map (λ v. (top v, payload v)) (lookup (λ k. bytes_eq name (bytes k)) es) ≡ found name (map shown es)
   found-shown name [] = refl
   found-shown name (e ∷ es) =

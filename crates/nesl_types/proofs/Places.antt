@@ -1,11 +1,11 @@
--- Where a datatype stands among the top-level names.
+-- Where a datatype is among the top-level names.
 use Rattle.std.proofs.Common.{◌≡◌, ℕ, zero, suc, ◌+◌, ◌<◌, ◌≤◌, Bool, true, false, List, [], ◌∷◌, length, slice_get, slice_index, Some, cond, refl, ap, ◌∙◌, inl, inr, arith}
 use Rattle.std.proofs.lemmas.Bool.{cases_lt}
 use Rattle.std.specs.Str.{bytes_eq}
 use Rattle.nesl_types.specs.declared.bindings.Top.{Top}
 use Rattle.nesl_types.specs.Names.{with_name, with_name_at, is_datatype, datatype_place, datatype_at, is_datatype_at, AreReached}
 
--- a name is set where the datatype with a tag stands, or it stands behind
+-- a name is set where the datatype with a tag is, or the datatype comes after it
 set_here : (n : ℕ) (c d : Bool) → d ≡ false → cond c 0 (suc n) ≤ cond d 0 (suc n)
 set_here n c true e = absurd cc
 set_here n true false e = omega arith
@@ -78,7 +78,7 @@ module _ {P : Type 0} where
   pub no_place : (names : List (List ℕ × Top × P)) (tag place : ℕ) → ((k : ℕ) → k < place → is_datatype_at names k tag ≡ false) → place ≡ length names → length names ≡ datatype_place names tag
   no_place names tag place h e = omega (arith, not_before names tag place (omega arith) h, place_within names tag)
 
-  -- one place more at which it doesn't stand
+  -- one more place at which it isn't
   pub more_before : (names : List (List ℕ × Top × P)) (tag place : ℕ) → ((k : ℕ) → k < place → is_datatype_at names k tag ≡ false) → is_datatype_at names place tag ≡ false →
       (k : ℕ) → k < place + 1 → is_datatype_at names k tag ≡ false
   more_before names tag place h e k l = elim (cases_lt k place) [

@@ -44,6 +44,6 @@ module _ {P : Type 0} where
   abbrev pub is_datatype_at : List (List ℕ × Top × P) → ℕ → ℕ → Bool
   is_datatype_at names place tag = option_map_or (λ b. is_datatype tag b.1) (slice_get names place) false
 
-  -- the place that is noted for a tag is not behind its datatype
+  -- the place that is noted for a tag is not after its datatype
   abbrev pub AreReached : List (List ℕ × Top × P) → List ℕ → Type 0
   AreReached names places = (tag : ℕ) → slice_index places tag ≤ datatype_place names tag

@@ -368,7 +368,7 @@ impl<P: Drop> Context<P> {
         self.bindings.len()
     }
 
-    /// How many different types the names have, as far as they share their parts. Nothing rests on it.
+    /// How many different types the names have, as far as they share their parts. No reply depends on it.
     pub fn kept_types(&self) -> usize {
         self.kept.len()
     }

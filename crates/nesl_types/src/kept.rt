@@ -75,13 +75,13 @@ impl Kept {
         Ok((ty, Some(number)))
     }
 
-    /// Lets go of the types of a name.
+    /// Drops the types of a name.
     pub fn release(&mut self, marks: Marks) {
         self.release_one(marks.first);
         self.release_one(marks.second);
     }
 
-    // Lets go of a type: it is kept no longer where no name has it.
+    // Drops a type of a name: it is no longer kept once no name has it.
     fn release_one(&mut self, mark: Option<u64>) {
         if let Some(number) = mark {
             if self.is_last(number) {

@@ -286,7 +286,6 @@ fn write_members(out: &mut Vec<u8>, classes: &[Class]) -> Result<(), AllocError>
     write_if(out, started, b')')
 }
 
-/// Writes a scheme.
 fn write_scheme<P: Drop>(
     out: &mut Vec<u8>,
     scheme: &Scheme,

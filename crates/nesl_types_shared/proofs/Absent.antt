@@ -22,11 +22,11 @@ module _ (eq : Shape → Shape → Bool) (same : (x y : Shape) → eq x y ≡ tr
   pub inserted_absent : (ns new : List Shape) (s : Shape) → IsAbsent ns s → new ≡ cond (list_any (eq s) ns) ns (ns ++ s ∷ []) → new ≡ ns ++ s ∷ []
   inserted_absent ns new s a e = e ∙ ap (λ b. cond b ns (ns ++ s ∷ [])) (none_equal ns s a)
 
--- a shape doesn't stand where its parts can't
+-- a shape isn't where its parts can't be
 pub absent_below : (ns : List Shape) (s : Shape) (start : ℕ) → AreMade ns → ((p : ℕ) → p < start → IsShapeBelow p s → ⊥) → (p : ℕ) → p < start → p < length ns → shape_at ns p ≡ s → ⊥
 absent_below ns s start m h p l w e = h p l (subst (IsShapeBelow p) e (m p w))
 
--- no shape stands twice where one was added that wasn't there
+-- no shape occurs twice after one was added that wasn't there
 once_push : (ns : List Shape) (s : Shape) → StandOnce ns → IsAbsent ns s → StandOnce (ns ++ s ∷ [])
 once_push ns s o a p q v w e = elim (cases_lt p (length ns)) [
   | inl l ↦ elim (cases_lt q (length ns)) [

@@ -76,7 +76,7 @@ module _ (s : ℕ → Term) (ts : List Term) (old : List (Option ℕ)) (p : ℕ)
             t ∙ ap (λ u. pair_of u (type_at ts b)) x ∙ ap (pair_of (substitute s (f q))) y;
       }
 
--- from `next` on, each part is what is at the place at which it is wanted, where those before it are
+-- from `next` on, each part is what is at the place that is noted for it, where those before it are
 pub record IsChecking (s : ℕ → Term) (ts from : List Term) (part place next : ℕ) (wanted : List (Option ℕ)) : Type 0 where
   pub inside : next ≤ length from
   pub len : length wanted ≡ length from
@@ -85,7 +85,7 @@ pub record IsChecking (s : ℕ → Term) (ts from : List Term) (part place next 
   pub checked : (q a : ℕ) → next ≤ q → moved_to wanted q ≡ Some a → AreInstances s ts wanted q (type_at from) → type_at ts a ≡ substitute s (type_at from q)
 
 module _ (s : ℕ → Term) (ts from : List Term) (part place n k : ℕ) (wanted : List (Option ℕ)) (e : k + 1 ≡ n) (i : IsChecking s ts from part place n wanted) where
-  -- a part that is wanted nowhere
+  -- a part for which no place is noted
   pub checking_none : moved_to wanted k ≡ None → IsChecking s ts from part place k wanted
   checking_none h = record {
     inside = omega (arith, i.inside);
@@ -114,7 +114,7 @@ module _ (s : ℕ → Term) (ts from : List Term) (part place n k : ℕ) (wanted
     ];
   }
 
--- where all are checked, each is what is at the place at which it is wanted
+-- where all are checked, each is what is at the place that is noted for it
 all_checked : (s : ℕ → Term) (ts from : List Term) (part place : ℕ) (wanted : List (Option ℕ)) → IsChecking s ts from part place 0 wanted → (k : ℕ) → AreInstances s ts wanted k (type_at from)
 all_checked s ts from part place wanted i zero q a l h = absurd (omega arith)
 all_checked s ts from part place wanted i (suc k) q a l h =

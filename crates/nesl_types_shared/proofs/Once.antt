@@ -1,4 +1,4 @@
--- No type stands twice in a bank.
+-- No type occurs twice in a bank.
 use Rattle.std.proofs.Common.{◌≡◌, ℕ, zero, suc, ◌+◌, ◌<◌, List, length, refl, sym, ap, ◌∙◌, arith}
 use Rattle.nesl_types_shared.specs.Term.{Term}
 use Rattle.nesl_types_shared.specs.declared.shape.Shape.{Shape}
@@ -32,7 +32,7 @@ one_below ns m o (suc k) p q i j v w e =
 pub one_place : (ns : List Shape) → AreMade ns → StandOnce ns → (p q : ℕ) → p < length ns → q < length ns → type_at (types ns) p ≡ type_at (types ns) q → p ≡ q
 one_place ns m o p q v w e = one_below ns m o (suc (p + q)) p q (omega arith) (omega arith) v w e
 
--- the same, told of a bank's types
+-- the same of a bank's types
 pub same_place : (ns : List Shape) (ts : List Term) → AreMade ns → StandOnce ns → types ns ≡ ts → (p q : ℕ) → p < length ts → q < length ts → type_at ts p ≡ type_at ts q → p ≡ q
 same_place ns ts m o e p q v w h =
     let l = length-types ns in

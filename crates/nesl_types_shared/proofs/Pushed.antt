@@ -1,4 +1,4 @@
--- The sequences of a type, behind its parts.
+-- The sequences of a type, after its parts.
 use Rattle.std.proofs.Common.{◌≡◌, ℕ, suc, ◌-◌, ◌<◌, Bool, true, false, List, [], ◌∷◌, ◌++◌, length, refl, sym, ap, subst, ◌∙◌, inl, inr, arith}
 use Rattle.std.proofs.lemmas.Bool.{cases_lt}
 use Rattle.std.proofs.lemmas.List.{get_or_append_left, get_or_push, length_push}
@@ -15,7 +15,7 @@ use Rattle.nesl_types_shared.proofs.Once.{one_place}
 use Rattle.nesl_types_shared.proofs.Visited.{or_cases}
 use Rattle.nesl_types_shared.proofs.Listed.{Has, same_types, added_last}
 
--- where a type of a list stands
+-- the place of a type in a list
 record StandsAt (ts : List Term) (v : Term) : Type 0 where
   place : ℕ
   within : place < length ts

@@ -132,7 +132,7 @@ reaching_enter ts place n k marks wider x e m d b t w i =
           with_marked P marks (parts x) (i.only c s h) (parts_variables c s (type_at ts) x (subst (λ u. IsBelow c (substitute s u)) t (i.only c s h k m)));
     })
 
--- what holds of a marked place, told of its mark
+-- what holds of a marked place, by its mark
 pub mark_read : (marks : List Bool) (p : ℕ) (mark : Bool) → p < length marks → mark ≡ get_or marks p mark → mark ≡ true → IsMarked marks p
 mark_read marks p mark l m e = sym (get_or_read marks p mark l m false) ∙ e
 
@@ -142,7 +142,7 @@ extends_more old mid new a b = record {
   kept = λ p l. b.kept p (omega (arith, a.longer)) ∙ a.kept p l;
 }
 
--- what stands for a variable stays
+-- the type given for a variable stays
 replacement_kept : (old new : List Term) (of : List ℕ) → Extends old new → All (λ p. p < length old) of → (v : ℕ) → replacement new of v ≡ replacement old of v
 replacement_kept old new of e a v = by (slice_get of v) refl
   where

@@ -49,7 +49,7 @@ or_cases : (a b : Bool) → (a || b) ≡ true → (a ≡ true) ⊎ (b ≡ true)
 or_cases true b h = inl refl
 or_cases false b h = inr h
 
--- what stands for a variable has no more nodes than a type with the variable
+-- the type put for a variable has no more nodes than that put for a type with the variable
 pub nodes_of_part : (s : ℕ → Term) (x : ℕ) (t : Term) → occurs x t ≡ true → nodes (s x) ≤ nodes (substitute s t)
 nodes_of_part s x int h = cc
 nodes_of_part s x bool h = cc
@@ -63,7 +63,7 @@ nodes_of_part s x (pair_of t u) h =
     ]
 nodes_of_part s x (named n) h = cc
 
--- no substitution makes a variable equal to a larger type that it stands in
+-- no substitution makes a variable equal to a larger type in which it occurs
 pub occurs_check : (s : ℕ → Term) (x : ℕ) (t : Term) → occurs x t ≡ true → variable x ≢ t → s x ≢ substitute s t
 occurs_check s x int h d e = cc
 occurs_check s x bool h d e = cc

@@ -101,7 +101,7 @@ waits_among f (p ∷ ps) v h = elim (has_either (rest_variables f ps) (variables
   | inr j ↦ record { index = 0; within = omega arith; has = j }
 ]
 
--- a variable of the type at place c waits on a stack, from a place on behind which all are below c
+-- a variable of the type at place c waits at a place of a stack, and from there on all types are below c
 pub record WaitsBelow (f : ℕ → Term) (ps : List ℕ) (c v : ℕ) : Type 0 where
   pub index : ℕ
   pub within : index < length ps
@@ -185,7 +185,7 @@ noted_or_waits f seen p s v e h = elim (has_either (own_variables s) (rest_varia
   | inr r ↦ inr (waits_among f (parts s) v r)
 ]
 
--- what stands behind a stack
+-- what comes after a stack
 behind : (ps xs : List ℕ) (n j : ℕ) → All (λ q. q < n) xs → length ps ≤ j → j < length (ps ++ xs) → get_or (ps ++ xs) j 0 < n
 behind ps xs n j a l m = rw (get_or-append_right ps xs (length ps) j 0 refl l) (All-get_or (λ q. q < n) xs (j - length ps) 0 (omega (arith, length-append ps xs)) a)
 

@@ -1,4 +1,4 @@
--- A type is stored as the shapes of its nodes, each behind those of its parts.
+-- A type is stored as the shapes of its nodes, each after those of its parts.
 use Rattle.std.specs.Prelude.{◌≡◌, List, [], ◌∷◌}
 use Rattle.std.proofs.Common.{ap, refl, ◌∙◌}
 use Rattle.std.specs.Coded.{Coded, code_by, coded_list}

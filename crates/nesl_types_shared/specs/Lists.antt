@@ -25,7 +25,7 @@ is_same t u = false
 abbrev pub with_type : List Term → Term → List Term
 with_type ts t = if list_any (is_same t) ts then ts else ts ++ t ∷ []
 
--- the parts of a type are added where they aren't yet, from left to right, each behind its own parts
+-- the parts of a type are added where they aren't yet, from left to right, each after its own parts
 abbrev pub with_parts : List Term → Term → List Term
 with_parts ts int = with_type ts int
 with_parts ts bool = with_type ts bool
@@ -50,7 +50,7 @@ pub record AreParts (shapes : List Shape) (t : Term) : Type 0 where
   pub order : types shapes ≡ parts_of t
   pub last : last_type (types shapes) ≡ t
 
--- how many nodes a type has, or `None` where they are more than are told
+-- how many nodes a type has, or `None` where they are more than a count holds
 abbrev pub IsCount : Option ℕ → Term → Type 0
 IsCount None t = largest < nodes t
 IsCount (Some n) t = n ≡ nodes t

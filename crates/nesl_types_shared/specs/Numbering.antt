@@ -26,7 +26,7 @@ abbrev pub numbers_below : ℕ → List ℕ
 numbers_below zero = []
 numbers_below (suc n) = numbers_below n ++ n ∷ []
 
--- the number of a variable: how many stand before it
+-- the number of a variable: how many come before it
 abbrev pub number_of : List ℕ → ℕ → ℕ
 number_of [] v = 0
 number_of (w ∷ vs) v = if nat_eq v w then 0 else 1 + number_of vs v

@@ -20,7 +20,7 @@ renamed s f (Named n) = shape_type f (Named n)
 renamed s f (SeqOf p) = shape_type f (SeqOf p)
 renamed s f (Both p q) = shape_type f (Both p q)
 
--- what stands for variable v: the type at the place that is given for it, or the variable where none is given
+-- what is put for variable v: the type at the place that is given for it, or the variable where none is given
 abbrev pub replacement : List Term → List ℕ → ℕ → Term
 replacement ts of v = option_map_or (type_at ts) (slice_get of v) (variable v)
 
@@ -34,21 +34,21 @@ pub record AreRenamed (s : ℕ → Term) (from to : List Term) (places : List �
   pub within : All (λ p. p < length to) places
   pub types : (p : ℕ) → p < length from → type_at to (slice_index places p) ≡ substitute s (type_at from p)
 
--- each place that is wanted is below n
+-- each place that is noted is below n
 abbrev pub AreBelow : ℕ → List (Option ℕ) → Type 0
 AreBelow n wanted = (q a : ℕ) → moved_to wanted q ≡ Some a → a < n
 
--- part q is wanted at place p now, and was wanted at no other place before
+-- place p is noted for part q now, and no other place was noted for it before
 pub record IsWanted (old new : List (Option ℕ)) (q p : ℕ) : Type 0 where
   pub now : new ≡ slice_set old q (Some p)
   pub before : (a : ℕ) → moved_to old q ≡ Some a → a ≡ p
 
--- of the parts before n, each that is wanted somewhere is what `f` gives, with `s v` in place of each variable v
+-- of the parts before n, each that has a place noted is there what `f` gives, with `s v` in place of each variable v
 abbrev pub AreInstances : (ℕ → Term) → List Term → List (Option ℕ) → ℕ → (ℕ → Term) → Type 0
 AreInstances s ts wanted n f = (q a : ℕ) → q < n → moved_to wanted q ≡ Some a → type_at ts a ≡ substitute s (f q)
 
--- the type at place p is that of a shape, with `s v` in place of each variable v, where its parts are what is at the
--- places at which they are wanted now; those that were wanted stay so
+-- the type at place p is that of a shape, with `s v` in place of each variable v, where its parts are at the
+-- places that are noted for them now; places that were noted before stay so
 pub record Matches (s : ℕ → Term) (ts : List Term) (old new : List (Option ℕ)) (shape : Shape) (p : ℕ) : Type 0 where
   pub longer : length new ≡ length old
   pub kept : (q a : ℕ) → moved_to old q ≡ Some a → moved_to new q ≡ Some a

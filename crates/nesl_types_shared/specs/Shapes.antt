@@ -24,7 +24,7 @@ IsShapeBelow n (Named m) = Unit {0}
 IsShapeBelow n (SeqOf p) = p < n
 IsShapeBelow n (Both p q) = (p < n) × (q < n)
 
--- the greatest size that is told
+-- the greatest size that a count holds
 abbrev pub largest : ℕ
 largest = 2 ^ 64 - 1
 

@@ -12,7 +12,7 @@ substitute s (seq_of t) = seq_of (substitute s t)
 substitute s (pair_of t u) = pair_of (substitute s t) (substitute s u)
 substitute s (named n) = named n
 
--- whether a variable stands in a type
+-- whether a variable occurs in a type
 abbrev pub occurs : ℕ → Term → Bool
 occurs x int = false
 occurs x bool = false

@@ -9,7 +9,7 @@ use Rattle.nesl_types_shared.specs.Shapes.{IsShapeBelow, shape_type, shape_at, l
 abbrev pub type_at : List Term → ℕ → Term
 type_at ts p = slice_index_or ts p int
 
--- how many nodes a type has, at most as many as are told
+-- how many nodes a type has, at most the greatest that a count holds
 abbrev pub size_of : Term → ℕ
 size_of t = min (nodes t) largest
 
@@ -25,7 +25,7 @@ types shapes = fold with_shape [] shapes
 abbrev pub AreMade : List Shape → Type 0
 AreMade shapes = (p : ℕ) → p < length shapes → IsShapeBelow p (shape_at shapes p)
 
--- no shape stands twice
+-- no shape occurs twice
 abbrev pub StandOnce : List Shape → Type 0
 StandOnce shapes =
     (p q : ℕ) → p < length shapes → q < length shapes → shape_at shapes p ≡ shape_at shapes q → p ≡ q
@@ -34,7 +34,7 @@ StandOnce shapes =
 abbrev pub IsAbsent : List Shape → Shape → Type 0
 IsAbsent shapes shape = (p : ℕ) → p < length shapes → shape_at shapes p ≡ shape → ⊥
 
--- shapes of types: each is made of earlier ones, and none stands twice
+-- shapes of types: each is made of earlier ones, and none occurs twice
 pub record AreTypes (shapes : List Shape) : Type 0 where
   pub made : AreMade shapes
   pub once : StandOnce shapes

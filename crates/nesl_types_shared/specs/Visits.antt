@@ -1,4 +1,4 @@
--- What is looked at behind a shape.
+-- What is looked at after a shape.
 use Rattle.std.specs.Prelude.{◌≡◌, ◌<◌, ℕ, Bool, true, false, List, [], ◌∷◌, All}
 use Rattle.std.specs.Prelude.{length, fold, slice_index_or, slice_set}
 use Rattle.nesl_types_shared.specs.Term.{Term}
@@ -33,7 +33,7 @@ own_variables (Both p q) = []
 abbrev pub with_marks : List Bool → List ℕ → List Bool
 with_marks marks ps = fold (λ ms p. slice_set ms p true) marks ps
 
--- no marked type has variables that the one at a place hasn't, whatever stands for them
+-- no marked type has variables that the one at a place hasn't, whatever types are put for them
 abbrev pub HaveItsVariables : List Term → ℕ → List Bool → Type 0
 HaveItsVariables ts place marks =
     (n : ℕ) (s : ℕ → Term) → IsBelow n (substitute s (type_at ts place)) →

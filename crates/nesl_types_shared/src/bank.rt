@@ -82,7 +82,7 @@ fn reserve(shapes: &mut Vec<Shape>, sizes: &mut Vec<u64>) -> Result<(), AllocErr
     sizes.reserve(room)
 }
 
-/// Puts a shape and its size behind the others, where room for them was taken.
+/// Puts a shape and its size after the others, where room for them was taken.
 fn push(shapes: &mut Vec<Shape>, sizes: &mut Vec<u64>, shape: Shape)
     requires below { IsShapeBelow (length sizes.old.items) shape }
     requires room { vec_len shapes.old < vec_capacity shapes.old }
@@ -173,7 +173,7 @@ impl Bank {
         self.sizes[place]
     }
 
-    /// Whether the types at two places are the same: no type stands twice.
+    /// Whether the types at two places are the same: no type occurs twice.
     pub fn is_same(&self, first: usize, second: usize) -> bool
         requires first { first < length self.now }
         requires second { second < length self.now }

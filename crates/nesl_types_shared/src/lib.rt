@@ -1,4 +1,4 @@
-//! Types in a bank, each made of earlier ones, so that equal parts stand once and nothing recurs deep over a type.
+//! Types in a bank, each made of earlier ones, so that equal parts are kept once and nothing recurs deep over a type.
 #![tactic(auto)]
 
 pub mod bank;

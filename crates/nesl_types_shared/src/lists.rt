@@ -61,7 +61,7 @@ const STACK_ROOM: usize = 8;
 /// For at most how many parts of a type room is taken at first.
 const PARTS_ROOM: u64 = 8;
 
-/// For how many parts of a type with so many nodes room is taken at first.
+/// For how many parts room is taken at first, for a type with this number of nodes.
 pub(crate) fn first_room(count: Option<u64>) -> usize {
     match count {
         Some(count) => count.min(PARTS_ROOM) as usize,
@@ -69,7 +69,7 @@ pub(crate) fn first_room(count: Option<u64>) -> usize {
     }
 }
 
-/// Puts the shapes of the parts of the type at a place into a list, each behind those that it is made of. In `places`
+/// Puts the shapes of the parts of the type at a place into a list, each after those that it is made of. In `places`
 /// is room for the place in the list of each part, and the stack is lent.
 fn push_listed(
     from: &Parts<'_>,
@@ -104,7 +104,7 @@ fn push_listed(
 /// Among how many types the parts of one are listed without memory but for the list.
 const FEW: usize = 32;
 
-/// Puts the shapes of the type at a place and of its parts that aren't there yet into a list, each behind those that
+/// Puts the shapes of the type at a place and of its parts that aren't there yet into a list, each after those that
 /// it is made of. In `places` is the place in the list of each part that is there. Whether it was no deeper than
 /// `depth`.
 fn list_within(
@@ -164,8 +164,8 @@ fn list_of_few(
     Ok(None)
 }
 
-/// The shapes of the parts of the type at a place, each behind those that it is made of, and its own last. Equal types
-/// have equal lists. Room is taken for so many at first.
+/// The shapes of the parts of the type at a place, each after those that it is made of, and its own last. Equal types
+/// have equal lists. Room is taken for `room` at first.
 pub(crate) fn list_parts(
     alloc: Global,
     from: &Parts<'_>,
@@ -199,7 +199,7 @@ pub(crate) fn list_of_seq(alloc: Global, item: &[Shape]) -> Result<Vec<Shape>, A
     Ok(shapes)
 }
 
-/// How many nodes the sequences of a type have, where the type has so many.
+/// How many nodes the sequences of a type have, from how many the type has.
 pub(crate) fn one_more(count: Option<u64>) -> Option<u64>
     ensures { (t : Term) → IsCount count t → IsCount result (seq_of t) }
 {

@@ -71,7 +71,7 @@ impl<'a> Part<'a> {
         Part::of(self.parts.again(), self.place)
     }
 
-    /// The types among which it stands, and its place there. Copies nothing.
+    /// The types among which it is, and its place there. Copies nothing.
     pub fn place(&self) -> (Parts<'a>, usize)
         ensures within { result.1 < length result.0 }
         ensures here { type_at result.0 result.1 ≡ self.now }

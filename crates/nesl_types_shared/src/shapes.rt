@@ -1,4 +1,4 @@
-//! The shapes of a bank's types, no two of them equal, and where each stands.
+//! The shapes of a bank's types, no two of them equal, and where each is.
 
 ghost use Rattle.std.specs.Prelude.{◌≡◌, ◌<◌, ◌++◌, ◌∷◌, [], ℕ, length, IfSome, IfNone, IfOk, OnOk, OnErr};
 ghost use Rattle.nesl_types_shared.specs.Shapes.{IsShapeBelow, shape_at};
@@ -11,7 +11,7 @@ use std::alloc::{AllocError, Global};
 /// Among how many shapes one is looked for without an index.
 const FEW: usize = 32;
 
-/// A place before which the shape doesn't stand: it stands behind its parts.
+/// A place before which the shape can't be: it comes after its parts.
 fn first_place(shape: Shape) -> usize
     ensures { (p : ℕ) → p < result → IsShapeBelow p shape → ⊥ }
 {

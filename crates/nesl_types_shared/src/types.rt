@@ -4,7 +4,7 @@ use crate::shape::Shape;
 use std::marker::Model;
 use std::sync::Arc;
 
-/// A type: the shapes of its parts, each behind those that it is made of, no two of them equal, and its own last.
+/// A type: the shapes of its parts, each after those that it is made of, no two of them equal, and its own last.
 /// Copies share them.
 pub struct Ty {
     shapes: Arc<Vec<Shape>>,
@@ -56,7 +56,7 @@ use std::alloc::{AllocError, Global};
 impl Ty {
     ghost use Rattle.std.specs.Prelude.{[]};
 
-    // The type that a list stands for.
+    // The type that a list means.
     fn of(alloc: Global, shapes: Vec<Shape>, count: Option<u64>) -> Result<Ty, AllocError>
         requires { IsType shapes.items count }
         ensures { IfOk result (λ t. t ≡ last_type (types shapes.items)) }
@@ -210,7 +210,7 @@ impl Ty {
         self.whole().note_variables(alloc, seen)
     }
 
-    /// A number made of its parts: equal types have the same one, and others seldom. Nothing rests on it.
+    /// A number made of its parts: equal types have the same one, and others seldom. No reply depends on it.
     pub fn number(&self) -> u64 {
         number_of(self.shapes.as_slice())
     }

@@ -1,4 +1,4 @@
--- What comparisons tell.
+-- What the answers of comparisons mean.
 use Rattle.std.proofs.Common.{◌≡◌, ℕ, ◌+◌, ◌<◌, ◌≤◌, List, length, take, get_or, arith, sym, ap, ◌∙◌, Some, slice_get}
 use Rattle.std.proofs.lemmas.List.{take_more_same, take_all, get_or-take}
 use Rattle.std.proofs.lemmas.Option.{get_or_from_slice_get}
@@ -6,7 +6,7 @@ use Rattle.nesl_values.specs.Tree.{ValueTree}
 use Rattle.nesl_values.specs.Compares.{Decides}
 use Rattle.nesl_values.specs.declared.same.Comparison.{Comparison}
 
--- what tells of one fact tells of another that holds where it does
+-- what decides one fact decides another that holds just where it does
 pub tells_of : {A B : Type 0} → (c : Comparison A B) (P Q : Type 0) (m n : ℕ) → (P → Q) → (Q → P) → m ≤ n → Decides c P m → Decides c Q n
 tells_of (Comparison.Settled answer) P Q m n there back le h = (λ yes. there (h.0 yes), λ q. h.1 (back q))
 tells_of (Comparison.RestsOn x y) P Q m n there back le h = ((λ same. there (h.0.0 same), λ q. h.0.1 (back q)), omega (arith, h.1))

@@ -30,7 +30,7 @@ is_next q qs rest push =
       work = ap work_of_all push ∙ work-push rest q;
     }
 
--- a list is what comes before one of its elements, the element, and the rest
+-- a list is the elements before one of its elements, that element, and the rest
 split : (xs : List ValueTree) (i n : ℕ) (x : ValueTree) → length xs ≡ n → i < n → slice_get xs i ≡ Some x → xs ≡ take i xs ++ x ∷ slice_range xs (i + 1) n
 split xs i n x len h at =
     let rest : slice_range xs (i + 1) n ≡ drop (i + 1) xs = take_all (n - (i + 1)) (drop (i + 1) xs) (omega (arith, length-drop (i + 1) xs)) in

@@ -1,4 +1,4 @@
--- The tree that a `Value` stands for.
+-- The tree that a `Value` means.
 use Rattle.std.specs.Prelude.{ℕ, List, map}
 use Rattle.nesl_values.specs.Tree.{ValueTree, ValueTrees, trees_of, int, boolean, character, pair, tagged, sequence}
 use Rattle.nesl_values.specs.Tree.{size}

@@ -120,7 +120,7 @@ fn turned<A: Allocator>(parts: &mut Parts<A>, nodes: &mut u64) -> Turn<A>
     }
 }
 
-// Puts another value in the place of a child of a node that has so many nodes.
+// Puts another value in the place of a child of a node, whose count of nodes it keeps right.
 #[tactic(auto, using(crate::proofs::Trees::size_positive))]
 fn exchanged<A: Allocator>(child: &mut Value<A>, by: Value<A>, nodes: &mut u64) -> Value<A>
     requires within { size (tree_of child.old) ≤ nodes.old }

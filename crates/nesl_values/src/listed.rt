@@ -1,4 +1,4 @@
-// Equality of trees, where what is still to be compared stands in a list.
+// Equality of trees, where a list holds what is still to be compared.
 ghost use Rattle.std.specs.Prelude.{◌≡◌, ◌↔◌, ◌+◌, ◌*◌, ◌-◌, ⊤, [], IsTrue, IfOk, OnOk, MatchOption, length};
 ghost use Rattle.nesl_values.specs.Tree.{pair, tagged, sequence, trees_of, size, sizes};
 ghost use Rattle.nesl_values.specs.Parts.{elements};
@@ -152,7 +152,7 @@ fn answer_tagged<'a, 'b, A: Allocator, B: Allocator, C: Allocator>(
     }
 }
 
-// Whether another value may be this sequence of so many elements.
+// Whether another value may be this sequence of `len` elements.
 fn answer_sequence<'a, 'b, A: Allocator, B: Allocator, C: Allocator>(
     questions: &mut Vec<Question<'a, 'b, A, B>, C>,
     one: &'a Value<A>,
@@ -198,7 +198,7 @@ fn answer_elements<'a, 'b, A: Allocator, B: Allocator, C: Allocator>(
     Ok(true)
 }
 
-// Asks whether two elements are the same, and whether those behind them are.
+// Asks whether two elements are the same, and whether those after them are.
 fn ask_from<'a, 'b, A: Allocator, B: Allocator, C: Allocator>(
     questions: &mut Vec<Question<'a, 'b, A, B>, C>,
     x: &'a Value<A>,

@@ -75,7 +75,7 @@ impl<A: Allocator> Value<A> {
         Value::of_parts(alloc, Parts::Chars(items))
     }
 
-    /// The parts of a pair, which they stay where the pair has other owners.
+    /// The parts of a pair, which keeps them where it has other owners.
     pub fn into_pair(self) -> Result<Option<(Value<A>, Value<A>)>, AllocError>
         ensures { IfOk result (λ o. option_map (λ p. (tree_of p.0, tree_of p.1)) o ≡ as_pair (tree_of self)) }
     {
@@ -92,14 +92,14 @@ impl<A: Allocator> Value<A> {
         }
     }
 
-    /// The tag and the value that it stands before.
+    /// The tag and the value that has it.
     pub fn into_tagged(self) -> Result<Option<(u64, Value<A>)>, AllocError>
         ensures { IfOk result (λ o. option_map (λ p. (p.0, tree_of p.1)) o ≡ as_tagged (tree_of self)) }
     {
         self.shared_inner()
     }
 
-    // The tag and the value that it stands before, with one more owner.
+    // The tag and the value that has it, with one more owner.
     fn shared_inner(&self) -> Result<Option<(u64, Value<A>)>, AllocError>
         ensures { IfOk result (λ o. option_map (λ p. (p.0, tree_of p.1)) o ≡ as_tagged (tree_of self.now)) }
     {

@@ -14,7 +14,7 @@ use std::sync::Arc;
 /// a value.
 ///
 /// The last variant holds what has parts. Such a value may have any number of owners, in any threads,
-/// and fewer than 2^64 nodes: whatever would make a larger one answers `AllocError`.
+/// and fewer than 2^64 nodes: whatever would make a larger one returns `AllocError`.
 #[cycle(value)]
 pub enum Value<A: Allocator = Global> {
     Int(i64),
@@ -25,7 +25,7 @@ pub enum Value<A: Allocator = Global> {
 
 // By link inversion: each node on the way down to a leaf holds its parent in the place of the child
 // that the way goes through, so a value of any depth is dropped with no memory of its own. A node that
-// has other owners stays as it is. Calls go down a value only where two threads let go of the last two
+// has other owners stays as it is. Calls go down a value only where two threads drop the last two
 // owners of a node at the same moment: one level for each such race that is lost.
 impl<A: Allocator> Drop for Value<A> {
     fn drop(self) {

@@ -18,7 +18,6 @@ use nesl_seqs_base::price::Price;
 use nesl_values::Value;
 use std::alloc::{AllocError, Allocator};
 
-/// The plan of `eql`.
 pub fn plan_eql<A: Allocator>(argument: Argument<'_, A>) -> Result<Plan<'_, A>, Trap>
     ensures { Plans (outcome_of Eql (argument_tree argument.entry))
         (reads Eql (argument_tree argument.entry)) 1 result }
@@ -29,7 +28,7 @@ pub fn plan_eql<A: Allocator>(argument: Argument<'_, A>) -> Result<Plan<'_, A>, 
     }
 }
 
-// The price of telling whether the one is the other, of which all nodes are read.
+// The price of deciding whether the one is the other, of which all nodes are read.
 pub(crate) fn price_of_equality<A: Allocator>(
     one: &Value<A>,
     other: Argument<'_, A>,
@@ -50,7 +49,6 @@ pub(crate) fn price_of_equality<A: Allocator>(
     })
 }
 
-// The nodes of both.
 fn nodes_of_both<A: Allocator>(one: &Value<A>, other: Argument<'_, A>, limit: u128) -> Option<u128>
     ensures { SomeIff result
         (size (tree_of one.now) + size (argument_tree other.entry) ≤ limit)

@@ -1,4 +1,4 @@
-//! What a function that reads a sequence comes to, told before it is built.
+//! What a function that reads a sequence returns, as a plan from which it is priced and then built.
 ghost use Rattle.std.specs.Prelude.{◌≡◌, ⊤, ◌+◌, ◌-◌, ◌≤◌, SomeIff, IfOk};
 ghost use Rattle.nesl_values.specs.Tree.{ValueTree, size};
 ghost use Rattle.nesl_values.specs.View.{tree_of};
@@ -19,7 +19,7 @@ use std::alloc::{AllocError, Allocator, Global};
 /// The result of a function at an argument that has one, as it is to be priced and built.
 #[derive_where(Copy)]
 pub enum Plan<'a, A: Allocator = Global> {
-    /// A leaf, and how many elements it was told from.
+    /// A leaf, and how many elements it was computed from.
     Leaf {
         leaf: Scalar,
         read: usize,
@@ -89,7 +89,7 @@ impl<A: Allocator + Copy> Plan<'_, A> {
     }
 }
 
-// The price of a root over so many leaves, made from as many elements.
+// The price of a root over `len` leaves, made from as many elements.
 fn price_of_scan(len: usize, limit: u128) -> Option<Price>
     ensures { (t : ValueTree) → size t ≡ 1 + len
         → SomeIff result (1 + len + (size t - 1) ≤ limit) (price len (1 + digits len) t) }

@@ -42,7 +42,7 @@ impl Scalar {
     }
 }
 
-/// The plan of a leaf that comes to that.
+/// The plan of that leaf.
 pub fn plan_of_leaf<A: Allocator>(
     argument: Argument<'_, A>,
     outcome: Result<Scalar, Trap>,

@@ -1,4 +1,4 @@
-// Scans: what is told of the elements before each.
+// Scans: what is computed from the elements before each.
 ghost use Rattle.std.specs.Prelude.{◌≡◌, ◌+◌, ◌<◌, ◌^◌, length, map, IfOk};
 ghost use Rattle.std.specs.List.{list_all};
 ghost use Rattle.nesl_values.specs.Parts.{as_int};
@@ -25,7 +25,6 @@ use nesl_seqs_base::joint::Joint;
 use nesl_values::Items;
 use std::alloc::{AllocError, Allocator};
 
-/// The plan of `plus_scan`.
 pub fn plan_plus_scan<A: Allocator>(argument: Argument<'_, A>) -> Result<Plan<'_, A>, Trap>
     ensures { Plans (outcome_of PlusScan (argument_tree argument.entry)) (length_of (argument_tree argument.entry))
         (1 + digits (length_of (argument_tree argument.entry))) result }

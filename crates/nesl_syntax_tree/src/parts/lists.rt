@@ -38,7 +38,7 @@ const FIRST_ELEMENTS: usize = 2;
 /// How many binders room is taken for at first. They are large, and most lists of them have one.
 const FIRST_BINDERS: usize = 1;
 
-// Takes room in a list that has none left: for so many at first, and later for as many again.
+// Takes room in a list that has none left: for `first` items at first, and later for as many as it has.
 #[inline(never)]
 fn take_room<T>(list: &mut Vec<T>, first: usize) -> Result<(), AllocError>
     requires { 1 ≤ first }
@@ -48,7 +48,7 @@ fn take_room<T>(list: &mut Vec<T>, first: usize) -> Result<(), AllocError>
     list.reserve_exact(first.max(list.len()))
 }
 
-// A list with one more, in which room for so many is taken at first.
+// A list with one more, in which room for `first` is taken at first.
 #[inline(always)]
 fn pushed<T: Drop>(list: Vec<T>, first: usize, item: T) -> Result<Vec<T>, AllocError>
     requires { 1 ≤ first }
@@ -180,7 +180,7 @@ pub fn sequence_of(alloc: Global, elements: Elements, span: Span) -> Result<Part
     }
 }
 
-// Binders with their height, where a node may stand over them.
+// Binders with their height, where a node over them isn't too high.
 fn low_bindings(bindings: Bindings) -> Option<(Vec<Binding>, u8)>
     ensures low { IfSome result (λ r. r.1 < 100) }
     ensures seen { (bs : Binders) → SeesBound bindings bs →
@@ -237,10 +237,10 @@ fn body_of(alloc: Global, body: Option<Part>, items: &[Binding]) -> Result<Part,
     }
 }
 
-/// The body and the binders of an apply-to-each with their greater height, where a node may stand over them.
+/// The body and the binders of an apply-to-each with their greater height, where a node over them isn't too high.
 type LowEach = Option<(Box<Exp>, Vec<Binding>, u8)>;
 
-// The body and the binders of an apply-to-each with their greater height, where a node may stand over them.
+// The body and the binders of an apply-to-each with their greater height, where a node over them isn't too high.
 fn low_each(alloc: Global, body: Option<Part>, bindings: Bindings) -> Result<LowEach, AllocError>
     ensures low { IfOk result (λ found. IfSome found (λ r. r.2 < 100)) }
     ensures seen { IfOk result (λ found. (b : Option Tree) (bs : Binders) → SeesBody body b → SeesBound bindings bs →

@@ -19,7 +19,7 @@ pub const LIMIT: u8 = 100;
 
 /// An expression with its height, or one that is too high and isn't built; and whether its tokens could be a pattern.
 /// The expression lies on the heap from the first: what is open stays small, and the node over it takes it as it is.
-/// A part is moved at each token. So its small fields stand first, where they take no room of their own.
+/// A part is moved at each token. So its small fields come first, where they take no room of their own.
 #[derive(Drop)]
 pub enum Part {
     Built {
@@ -38,7 +38,7 @@ pub fn too_high<T: Drop>(parts: T, pattern: bool) -> Part
     Part::High(pattern)
 }
 
-/// Drops the parts of what is too high, where what it is made of was wanted.
+/// Drops the parts of what is too high, in place of returning them.
 pub(crate) fn none<T: Drop, U>(parts: T) -> Option<U>
     ensures { result ≡ None }
 {
@@ -65,7 +65,7 @@ pub(crate) fn built(exp: Box<Exp>, height: u8, pattern: bool) -> Part
     }
 }
 
-/// An expression with its height, where a node may stand over it.
+/// An expression with its height, where a node over it isn't too high.
 pub(crate) fn low_enough(part: Part) -> Option<(Box<Exp>, u8)>
     ensures low { IfSome result (λ r. r.1 < 100) }
     ensures seen { (x : Tree) → Sees part x →
@@ -77,7 +77,7 @@ pub(crate) fn low_enough(part: Part) -> Option<(Box<Exp>, u8)>
     }
 }
 
-// Two expressions with their greater height, where a node may stand over them.
+// Two expressions with their greater height, where a node over them isn't too high.
 #[inline(always)]
 fn both(left: Part, right: Part) -> Option<(Box<Exp>, Box<Exp>, u8)>
     ensures low { IfSome result (λ r. r.2 < 100) }
@@ -237,7 +237,7 @@ pub fn range_of(alloc: Global, from: Part, to: Part, span: Span) -> Result<Part,
     Ok(built(exp, height, false))
 }
 
-// Three expressions with their greatest height, where a node may stand over them.
+// Three expressions with their greatest height, where a node over them isn't too high.
 fn all_three(first: Part, second: Part, third: Part) -> Option<(Box<Exp>, Box<Exp>, Box<Exp>, u8)>
     ensures low { IfSome result (λ r. r.3 < 100) }
     ensures seen { (x y z : Tree) → Sees first x → Sees second y → Sees third z →
@@ -290,7 +290,7 @@ pub fn choice_of(
     Ok(built(exp, height, false))
 }
 
-/// An empty sequence whose `[` stands here.
+/// An empty sequence whose `[` is here.
 pub fn empty_of(alloc: Global, written: TypePart, from: Span) -> Result<Part, AllocError>
     ensures { IfOk result (λ r. (x : TypeTree) → SeesType written x →
         Sees r (node (spanning from (type_span x)) (trees.empty x))) }

@@ -68,7 +68,7 @@ pub fn widen(part: TypePart, span: Span) -> TypePart
     }
 }
 
-// A type with its height, where another may stand over it.
+// A type with its height, where another one over it isn't too high.
 fn low_enough(part: TypePart) -> Option<(Box<TypeExp>, u8)>
     ensures low { IfSome result (λ r. r.1 < 100) }
     ensures seen { (x : TypeTree) → SeesType part x →

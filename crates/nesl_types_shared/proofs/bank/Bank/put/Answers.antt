@@ -12,7 +12,7 @@ use Rattle.nesl_types_shared.proofs.bank.Bank.put.Goals as goal
 below : (ns : List Shape) (ts : List Term) (s : Shape) → types ns ≡ ts → IsShapeBelow (length ts) s → IsShapeBelow (length ns) s
 below ns ts s e b = subst (λ n. IsShapeBelow n s) (ap length (sym e) ∙ length-types ns) b
 
--- the place of the type, told of the bank's types
+-- the place of the type among the bank's types
 put : (ns ms : List Shape) (ts : List Term) (s : Shape) (p : ℕ) (added : Bool) → types ns ≡ ts → AreMade ns → IsShapeBelow (length ts) s → IsPlaced ns ms s p added → IsPut ts (types ms) (shape_type (type_at ts) s) p
 put ns ms ts s p added e m b i = subst (λ us. IsPut us (types ms) (shape_type (type_at us) s) p) e (type_placed ns ms s p added m i (below ns ts s e b))
 
