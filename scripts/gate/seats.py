@@ -22,7 +22,7 @@ def silent_ones(program):
         silent.must("x = 3;", "x = 3 : int (work 1, depth 1)")
         for client, what in ((mute, "who never said a line"), (silent, "who said no other line")):
             rest, took = sockets_end(client)
-            demand(rest in ("", "fault user\n"), f"{what} is told {short(rest)}")
+            demand(rest in ("", "fault user\n"), f"{what} is answered {short(rest)}")
             client.close()
         client, _ = seated(service, "ann", PATIENCE)
         client.must("x;", "it = 3 : int (work 1, depth 1)")

@@ -1,7 +1,7 @@
 """Lines that are hard to type, as scripts/test tries them: long ones as people write them, and some beyond the bounds of
 typing.
 
-Typing is charged no work, so it has bounds of its own, which docs/DECISIONS.md tells under Types. A line beyond them is
+Typing is charged no work, so it has bounds of its own, which docs/DECISIONS.md has under Types. A line beyond them is
 answered `fault memory`, and no line that a person writes may come near.
 """
 import subprocess

@@ -1,4 +1,4 @@
-//! Rows `SCRIPT => TOLD`: what a script tells of values.
+//! Rows `SCRIPT => TOLD`: what a script reports of values.
 //!
 //! A script is words, each of which is a number, or begins with a letter or a sign. These make values:
 //!

@@ -204,7 +204,7 @@ fn part_nodes(
     Ok(0)
 }
 
-/// A number of nodes that is told as at most `u64::MAX`, or 0 where it may be more.
+/// A number of nodes that is reported as at most `u64::MAX`, or 0 where it may be more.
 fn exact(told: u64) -> u64
     ensures { (n : ℕ) → told ≡ min n largest → 0 < result → result ≡ n }
 {
