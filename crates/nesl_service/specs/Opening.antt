@@ -1,5 +1,6 @@
 -- The front of a stream whose first line may name a user.
-use Rattle.std.specs.Prelude.{ℕ, ◌+◌, ◌==◌, List, [], ◌∷◌, Bool, true, false, ◌&&◌, ◌||◌, codes, nat_lt, slice_index, if◌then◌else◌}
+use Rattle.std.specs.Prelude.{ℕ, ◌+◌, ◌==◌, List, [], ◌∷◌, Bool, true, false, ◌&&◌, ◌||◌, codes, nat_lt}
+use Rattle.std.specs.Prelude.{slice_index, if◌then◌else◌}
 use Rattle.std.specs.Char.{is_ascii_digit, is_ascii_lowercase}
 use Rattle.nesl_service.specs.declared.opening.Opening.{Opening}
 use Rattle.nesl_service.specs.declared.opening.Opening.TheVariants.{Word, Name, Return, Whole, Refused}
@@ -15,7 +16,8 @@ is_refused Refused = true
 -- `count` bytes of `user `, and another byte
 abbrev pub after_word : ℕ → ℕ → Opening
 after_word count byte =
-    if nat_lt count 5 && slice_index (codes "user ") count == byte then (if nat_lt (count + 1) 5 then Word (count + 1) else Name 0)
+    if nat_lt count 5 && slice_index (codes "user ") count == byte
+    then (if nat_lt (count + 1) 5 then Word (count + 1) else Name 0)
     else Refused
 
 -- `user `, `count` bytes of a name, and another byte

@@ -44,7 +44,8 @@ IsMadeSize ns sizes (SeqOf q) k =
     (0 < slice_index sizes (target ns q)) × (k ≡ 1 + slice_index sizes (target ns q))
 IsMadeSize ns sizes (Both q r) k =
     (0 < slice_index sizes (target ns q))
-    × ((0 < slice_index sizes (target ns r)) × (k ≡ 1 + slice_index sizes (target ns q) + slice_index sizes (target ns r)))
+    × ((0 < slice_index sizes (target ns r))
+    × (k ≡ 1 + slice_index sizes (target ns q) + slice_index sizes (target ns r)))
 IsMadeSize ns sizes (Part r p) k = ⊥
 
 -- the type at a place without a link has one node, and no parts elsewhere
