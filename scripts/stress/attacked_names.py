@@ -1,4 +1,4 @@
-"""What scripts/stress/attack says with names that the program's tables look for at one place."""
+"""What scripts/stress/attack says with names that a hashed table would look for at one place."""
 import subprocess
 import tempfile
 from pathlib import Path
@@ -11,7 +11,7 @@ PART = "x"
 
 
 def colliding_names(count):
-    """Names that the tables hash like `PART`. A program in C finds them within 6 seconds of a processor."""
+    """Names that the kit hashes like `PART`. A program in C finds them within 6 seconds of a processor."""
     with tempfile.TemporaryDirectory() as folder:
         search = Path(folder, "colliding_names")
         source = SCRIPTS / "stress" / "colliding_names.c"

@@ -1,5 +1,5 @@
-/* Prints names of seven letters that the program's tables of names hash like a given name: they look for all of them at
- * the same place. The hash is FoldHasher of the kit, whose seed is fixed. For tests only:
+/* Prints names of seven letters that the kit hashes like a given name: a hashed table looks for all of them at one place.
+ * The hash is FoldHasher of the kit, whose seed is fixed. For tests only:
  *
  *     cc -O2 -o colliding_names colliding_names.c
  *     ./colliding_names NAME COUNT

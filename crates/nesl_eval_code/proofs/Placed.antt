@@ -1,39 +1,13 @@
 -- The places of top-level names.
-use Rattle.std.proofs.Common.{◌≡◌, ℕ, suc, ◌+◌, Bool, true, false, cond, refl, sym, ◌∙◌, ap, arith, List, [], ◌∷◌, ◌++◌, map, length, Option, Some, None, Vec, Global}
+use Rattle.std.proofs.Common.{◌≡◌, ℕ, suc, Bool, true, false, refl, sym, ◌∙◌, ap, List, [], ◌∷◌, ◌++◌, length, Option, Some, None}
 use Rattle.std.specs.Prelude.{option_map, if◌then◌else◌}
-use Rattle.std.specs.List.{position, position_from}
 use Rattle.std.specs.Str.{bytes_eq}
-use Rattle.std.proofs.lemmas.Iterator.Adapters.{position_from-zero}
-use Rattle.nesl_eval_code.specs.declared.code.Code.{Code}
 use Rattle.nesl_eval_meaning.specs.Names.{Name}
 use Rattle.nesl_eval_code.specs.Means.{place_of}
-use Rattle.nesl_eval_code.specs.Resolving.{keys_of, with_own}
+use Rattle.nesl_eval_code.specs.Resolving.{with_own}
 use Rattle.nesl_eval_code.proofs.Tables.{place_stays}
 
 module _ (x : Name) where
-  later : (i : ℕ) (o : Option ℕ) → option_map (λ k. k + (i + 1)) o ≡ option_map (λ k. k + i) (option_map suc o)
-  later i None = refl
-  later i (Some k) = let e : k + (i + 1) ≡ suc k + i = omega arith in ap Some e
-
-  placed_from : (es : List (Vec ℕ Global × Option Code)) (i : ℕ) →
-      position_from (λ (k : Vec ℕ Global). bytes_eq x k.items) i (map (λ e. e.0) es) ≡ option_map (λ k. k + i) (place_of (keys_of es) x)
-  placed_from [] i = refl
-  placed_from (e ∷ es) i = by (bytes_eq x e.0.items) (placed_from es (i + 1))
-    where
-      by : (b : Bool) →
-          position_from (λ (k : Vec ℕ Global). bytes_eq x k.items) (i + 1) (map (λ e. e.0) es) ≡ option_map (λ k. k + (i + 1)) (place_of (keys_of es) x) →
-          cond b (Some i) (position_from (λ (k : Vec ℕ Global). bytes_eq x k.items) (i + 1) (map (λ e. e.0) es))
-          ≡ option_map (λ k. k + i) (if b then Some 0 else option_map suc (place_of (keys_of es) x))
-      by true h = let e : i ≡ 0 + i = omega arith in ap Some e
-      by false h = h ∙ later i (place_of (keys_of es) x)
-
-  none_added : (o : Option ℕ) → option_map (λ k. k + 0) o ≡ o
-  none_added None = refl
-  none_added (Some k) = let e : k + 0 ≡ k = omega arith in ap Some e
-
-  pub placed : (es : List (Vec ℕ Global × Option Code)) → position (λ (k : Vec ℕ Global). bytes_eq x k.items) (map (λ e. e.0) es) ≡ place_of (keys_of es) x
-  placed es = position_from-zero (λ (k : Vec ℕ Global). bytes_eq x k.items) (map (λ e. e.0) es) ∙ placed_from es 0 ∙ none_added (place_of (keys_of es) x)
-
   -- one name more, last
   pub placed_last : (y : Name) (ns : List Name) → place_of ns x ≡ None → (if bytes_eq x y then Some (length ns) else None) ≡ place_of (ns ++ y ∷ []) x
   placed_last y [] e = by (bytes_eq x y)

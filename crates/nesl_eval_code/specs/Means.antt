@@ -2,6 +2,7 @@
 use Rattle.std.specs.Prelude.{◌≡◌, ◌<◌, ℕ, List, [], ◌∷◌, ◌++◌, map, Bool, true, false, ◌||◌, Option, Some, None, suc}
 use Rattle.std.specs.Prelude.{option_map, option_and_then, slice_get, if◌then◌else◌}
 use Rattle.std.specs.Str.{bytes_eq}
+pub use Rattle.nesl_types.specs.Order.{place_of}
 use Rattle.nesl_syntax_tree.specs.Trees.{PatternTree, Tree, Trees, Binders, pattern, name_pattern, pair_pattern}
 use Rattle.nesl_syntax_tree.specs.Trees.{record_pattern, none, more, no_binders, binder}
 use Rattle.nesl_eval_code.specs.declared.code.Code.{Code}
@@ -73,11 +74,6 @@ IsTableOf n env t = AllStand n t env t env
 -- names without what they mean
 abbrev pub names_of : {X : Type 0} → List (Name × X) → List Name
 names_of bs = map (λ b. b.0) bs
-
--- a name's place: that of the first name that is the same
-abbrev pub place_of : List Name → Name → Option ℕ
-place_of [] x = None
-place_of (y ∷ ys) x = if bytes_eq x y then Some 0 else option_map suc (place_of ys x)
 
 -- the table's names are these, and perhaps more after them
 abbrev pub Begins : List Name → Table → Type 0

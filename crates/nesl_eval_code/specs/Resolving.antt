@@ -1,11 +1,9 @@
 -- What resolving a name gives.
-use Rattle.std.specs.Prelude.{ℕ, List, [], ◌∷◌, ◌++◌, map, Option, Some, None, option_map}
-use Rattle.std.proofs.Common.{Vec, Global}
+use Rattle.std.specs.Prelude.{List, [], ◌∷◌, ◌++◌, Option, Some, None, option_map}
 use Rattle.nesl_syntax_tree.specs.Views.{pattern_tree}
 use Rattle.nesl_eval_code.specs.declared.layers.Layers.{Layers, fold-Layers}
 use Rattle.nesl_eval_code.specs.declared.layers.Layers.TheOpen.{Layers-F}
 use Rattle.nesl_eval_code.specs.declared.layers.LocalPlace.{LocalPlace}
-use Rattle.nesl_eval_code.specs.declared.code.Code.{Code}
 use Rattle.nesl_eval_code.specs.declared.places.Places.{Places}
 use Rattle.nesl_eval_meaning.specs.Names.{Name}
 use Rattle.nesl_eval_code.specs.Frame.{patterns_before}
@@ -27,10 +25,6 @@ abbrev pub FindsLocal : List Layer → Name → Option LocalPlace → Type 0
 FindsLocal ls x None = IsNoLocal ls x
 FindsLocal ls x (Some p) = IsSpotOf ls x (spot p.up p.index p.steps.items)
 
--- the names of a map in order
-abbrev pub keys_of : List (Vec ℕ Global × Option Code) → List Name
-keys_of es = map (λ e. e.0.items) es
-
 -- the names that have a place
 abbrev pub with_own : Option Name → List Name → List Name
 with_own None names = names
@@ -38,4 +32,4 @@ with_own (Some x) names = names ++ x ∷ []
 
 -- the same of a value of the program
 abbrev pub known : Places → List Name
-known p = with_own (option_map (λ x. x.now) p.own) (keys_of p.bodies.now.entries)
+known p = with_own (option_map (λ x. x.now) p.own) p.names.now

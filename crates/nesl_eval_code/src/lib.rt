@@ -13,5 +13,5 @@ mod preparing;
 pub use blocks::blocks_run_as_code;
 pub use code::{Code, Step};
 pub use laws::runs_as_meant;
-pub use places::{Places, place_in};
+pub use places::Places;
 pub use preparing::{code_of_body, code_of_expression};

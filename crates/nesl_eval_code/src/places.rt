@@ -3,34 +3,26 @@
 ghost use Rattle.std.specs.Prelude.{◌≡◌, if◌then◌else◌};
 ghost use Rattle.std.specs.Str.{bytes_eq};
 ghost use Rattle.nesl_eval_code.specs.Means.{place_of};
-ghost use Rattle.nesl_eval_code.specs.Resolving.{keys_of, with_own, known};
+ghost use Rattle.nesl_eval_code.specs.Resolving.{with_own, known};
 
-use crate::code::Code;
-use indexmap::IndexMap;
+use nesl_types::NameOrder;
 
 /// The top-level names. A function whose body is prepared before it is there has its place already, the last.
 #[derive(Clone, Copy)]
 pub struct Places<'a> {
-    /// The names in order, each with the code of its body, if it is a function.
-    pub bodies: &'a IndexMap<Vec<u8>, Option<Code>>,
+    /// The names in order.
+    pub names: &'a NameOrder,
     pub own: Option<&'a [u8]>,
-}
-
-/// The name's place among those that are there.
-pub fn place_in(bodies: &IndexMap<Vec<u8>, Option<Code>>, name: &[u8]) -> Option<usize>
-    ensures { result ≡ place_of (keys_of bodies.now.entries) name.now }
-{
-    bodies.get_index_of(name)
 }
 
 /// The name's place.
 pub(crate) fn place_of(places: &Places<'_>, name: &[u8]) -> Option<usize>
     ensures { result ≡ place_of (known places.now) name.now }
 {
-    match place_in(places.bodies, name) {
+    match places.names.place_of(name) {
         Some(place) => Some(place),
         None => match places.own {
-            Some(own) => last_place(own, name, places.bodies.len()),
+            Some(own) => last_place(own, name, places.names.len()),
             None => None,
         },
     }

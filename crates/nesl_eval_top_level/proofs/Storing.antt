@@ -1,8 +1,7 @@
 -- What is at top level.
-use Rattle.std.proofs.Common.{◌≡◌, ◌<◌, ℕ, zero, suc, Bool, true, false, refl, sym, ◌∙◌, ap, subst, arith, List, [], ◌∷◌, ◌++◌, append_assoc, append-nil, Option, Some, None, Vec, Global}
-use Rattle.std.specs.Prelude.{option_map, option_and_then, slice_get, is_some, unwrap_or, if◌then◌else◌}
+use Rattle.std.proofs.Common.{◌≡◌, ◌<◌, ℕ, zero, suc, Bool, true, false, refl, sym, ◌∙◌, ap, subst, arith, List, [], ◌∷◌, ◌++◌, append_assoc, append-nil, Option, Some, None}
+use Rattle.std.specs.Prelude.{option_map, option_and_then, slice_get, set, is_some, unwrap_or, if◌then◌else◌}
 use Rattle.std.specs.Str.{bytes_eq}
-use Rattle.std.specs.Map.{values_of}
 use Rattle.nesl_types.specs.declared.bindings.Top as kinds
 use Rattle.nesl_types.specs.declared.bindings.Top.TheVariants as kind
 use Rattle.nesl_types.specs.Names.{with_name, with_name_at}
@@ -17,9 +16,7 @@ use Rattle.nesl_eval_meaning.specs.Out.{given}
 use Rattle.nesl_eval_meaning.specs.Outcome.{out, in_bound}
 use Rattle.nesl_eval_code.specs.Run.{Table, Slot, run, slot_at, nothing_slot}
 use Rattle.nesl_eval_code.specs.Means.{Agrees, Means, Layer, bindings, bound_all, StandsFor, AllStand, IsTableOf, Begins, names_of, place_of}
-use Rattle.nesl_eval_code.specs.Resolving.{keys_of}
-use Rattle.indexmap.specs.IndexMap.{insert_entry, set_value_at}
-use Rattle.nesl_eval_top_level.specs.Stored.{Entry, Codes, top_of, slot_of, environment, table, HasCode, AllHaveCode, AreStored, names_in, with_place, with_code}
+use Rattle.nesl_eval_top_level.specs.Stored.{Entry, Codes, top_of, slot_of, environment, table, HasCode, AllHaveCode, AreStored, names_in, with_place, put}
 
 pub means_more : (ns more : List Name) (ls : List Layer) (c : Code) (e : Tree) → Means ns ls c e → Means (ns ++ more) ls c e
 means_more ns more ls c e h = λ n t env b at. h n t env (more ++ b.0, b.1 ∙ append_assoc ns more b.0) at
@@ -35,18 +32,12 @@ all_more : (ns more : List Name) (bs : List Entry) (cs : Codes) → AllHaveCode 
 all_more ns more [] [] h = tt
 all_more ns more [] (c ∷ cs) h = absurd h
 all_more ns more (b ∷ bs) [] h = absurd h
-all_more ns more (b ∷ bs) (c ∷ cs) h = (h.0, code_more ns more b.2 c.1 h.1, all_more ns more bs cs h.2)
+all_more ns more (b ∷ bs) (c ∷ cs) h = (code_more ns more b.2 c h.0, all_more ns more bs cs h.1)
 
-pub table_names : (bs : List Entry) (cs : Codes) → names_of (table bs cs) ≡ keys_of cs
-table_names bs [] = refl
-table_names [] (c ∷ cs) = ap (λ y. c.0.items ∷ y) (table_names [] cs)
-table_names (b ∷ bs) (c ∷ cs) = ap (λ y. c.0.items ∷ y) (table_names bs cs)
-
-pub same_names : (ns : List Name) (bs : List Entry) (cs : Codes) → AllHaveCode ns bs cs → keys_of cs ≡ names_in bs
-same_names ns [] [] h = refl
-same_names ns [] (c ∷ cs) h = absurd h
-same_names ns (b ∷ bs) [] h = absurd h
-same_names ns (b ∷ bs) (c ∷ cs) h = ap (λ y. y ∷ keys_of cs) h.0 ∙ ap (λ y. b.0 ∷ y) (same_names ns bs cs h.2)
+pub table_names : (bs : List Entry) (cs : Codes) → names_of (table bs cs) ≡ names_in bs
+table_names [] cs = refl
+table_names (b ∷ bs) [] = ap (λ y. b.0 ∷ y) (table_names bs [])
+table_names (b ∷ bs) (c ∷ cs) = ap (λ y. b.0 ∷ y) (table_names bs cs)
 
 -- a body, where the table means the environment
 body_agrees : (ns : List Name) (p : PatternTree) (c : Code) (e : Tree) → Means ns (bindings (p ∷ []) ∷ []) c e → (m : ℕ) (t : Table) (env : Environment) →
@@ -75,11 +66,11 @@ slots_stand : (ns : List Name) (n : ℕ) (t : Table) (env : Environment) → Beg
 slots_stand ns n t env b at [] [] h = tt
 slots_stand ns n t env b at [] (c ∷ cs) h = absurd h
 slots_stand ns n t env b at (e ∷ es) [] h = absurd h
-slots_stand ns n t env b at (e ∷ es) (c ∷ cs) h = (h.0, slot_stands ns n t env b at e.1 e.2 c.1 h.1, slots_stand ns n t env b at es cs h.2)
+slots_stand ns n t env b at (e ∷ es) (c ∷ cs) h = (refl, slot_stands ns n t env b at e.1 e.2 c h.0, slots_stand ns n t env b at es cs h.1)
 
 module _ (bs : List Entry) (cs : Codes) (h : AreStored bs cs) where
   begins : Begins (names_in bs) (table bs cs)
-  begins = ([], table_names bs cs ∙ same_names (names_in bs) bs cs h ∙ sym (append-nil (names_in bs)))
+  begins = ([], table_names bs cs ∙ sym (append-nil (names_in bs)))
 
   below : (n m : ℕ) → m < n → IsTableOf m (environment bs) (table bs cs)
   below zero m l = absurd (omega arith)
@@ -107,21 +98,18 @@ module _ (x : Name) (k : kinds.Top) (p : Payload) where
       by true e = refl
       by false e = later (place_of (names_in bs) x) (sym e)
 
-  module _ (ns : List Name) (key : Vec ℕ Global) (code : Option Code) (q : key.items ≡ x) (here : HasCode ns p code) where
-    set_codes : (bs : List Entry) (cs : Codes) → AllHaveCode ns bs cs → AllHaveCode ns (with_name x k p bs) (with_code key code cs)
-    set_codes [] [] h = (q, here, tt)
+  module _ (ns : List Name) (code : Option Code) (here : HasCode ns p code) where
+    set_codes : (bs : List Entry) (cs : Codes) → AllHaveCode ns bs cs → AllHaveCode ns (with_name x k p bs) (put (place_of (names_in bs) x) code cs)
+    set_codes [] [] h = (here, tt)
     set_codes [] (c ∷ cs) h = absurd h
     set_codes (b ∷ bs) [] h = absurd h
-    set_codes (b ∷ bs) (c ∷ cs) h =
-        let F : Bool → Type 0 = λ r. AllHaveCode ns (if bytes_eq x b.0 then (b.0, k, p) ∷ bs else b ∷ with_name x k p bs)
-        (if r then (c.0, code) ∷ cs else c ∷ with_code key code cs) in
-        let same : bytes_eq x b.0 ≡ bytes_eq key.items c.0.items = ap (λ y. bytes_eq y b.0) (sym q) ∙ ap (bytes_eq key.items) (sym h.0) in
-        subst F same (by (bytes_eq x b.0) (set_codes bs cs h.2))
+    set_codes (b ∷ bs) (c ∷ cs) h = by (bytes_eq x b.0) (place_of (names_in bs) x) (set_codes bs cs h.1)
       where
-        by : (r : Bool) → AllHaveCode ns (with_name x k p bs) (with_code key code cs) →
-            AllHaveCode ns (if r then (b.0, k, p) ∷ bs else b ∷ with_name x k p bs) (if r then (c.0, code) ∷ cs else c ∷ with_code key code cs)
-        by true i = (h.0, here, h.2)
-        by false i = (h.0, h.1, i)
+        by : (q : Bool) (o : Option ℕ) → AllHaveCode ns (with_name x k p bs) (put o code cs) →
+            AllHaveCode ns (if q then (b.0, k, p) ∷ bs else b ∷ with_name x k p bs) (put (if q then Some 0 else option_map suc o) code (c ∷ cs))
+        by true o i = (here, h.1)
+        by false None i = (h.0, i)
+        by false (Some j) i = (h.0, i)
 
 more_of : (x : Name) (ns : List Name) → (more : List Name) × (with_place x ns ≡ ns ++ more)
 more_of x ns = by (is_some (place_of ns x))
@@ -130,16 +118,15 @@ more_of x ns = by (is_some (place_of ns x))
     by true = ([], sym (append-nil ns))
     by false = (x ∷ [], refl)
 
-pub set_stored : (x : Name) (k : kinds.Top) (p : Payload) (key : Vec ℕ Global) (code : Option Code) (bs : List Entry) (cs : Codes) → AreStored bs cs →
-    key.items ≡ x → HasCode (with_place x (keys_of cs)) p code → AreStored (with_name x k p bs) (with_code key code cs)
-set_stored x k p key code bs cs h q here =
+pub set_stored : (x : Name) (k : kinds.Top) (p : Payload) (place : Option ℕ) (code : Option Code) (bs : List Entry) (cs : Codes) → AreStored bs cs →
+    place ≡ place_of (names_in bs) x → HasCode (with_place x (names_in bs)) p code → AreStored (with_name x k p bs) (put place code cs)
+set_stored x k p place code bs cs h q here =
     let more = more_of x (names_in bs) in
-    let F : List Name → Type 0 = λ ns. AllHaveCode ns (with_name x k p bs) (with_code key code cs) in
+    let E : Option ℕ → Type 0 = λ o. AreStored (with_name x k p bs) (put o code cs) in
+    let F : List Name → Type 0 = λ ns. AllHaveCode ns (with_name x k p bs) (put (place_of (names_in bs) x) code cs) in
     let G : List Name → Type 0 = λ ns. AllHaveCode ns bs cs in
-    let H : List Name → Type 0 = λ ns. HasCode (with_place x ns) p code in
-    subst F (sym (set_names x k p bs))
-    (set_codes x k p (with_place x (names_in bs)) key code q (subst H (same_names (names_in bs) bs cs h) here) bs cs
-    (subst G (sym more.1) (all_more (names_in bs) more.0 bs cs h)))
+    subst E (sym q) (subst F (sym (set_names x k p bs))
+    (set_codes x k p (with_place x (names_in bs)) code here bs cs (subst G (sym more.1) (all_more (names_in bs) more.0 bs cs h))))
 
 -- what is at a place is set
 names_kept : (i : ℕ) (k : kinds.Top) (p : Payload) (bs : List Entry) → names_in (with_name_at i k p bs) ≡ names_in bs
@@ -148,24 +135,18 @@ names_kept zero k p (b ∷ bs) = refl
 names_kept (suc i) k p (b ∷ bs) = ap (λ y. b.0 ∷ y) (names_kept i k p bs)
 
 codes_kept : (ns : List Name) (i : ℕ) (k : kinds.Top) (p : Payload) (c : Option Code) (bs : List Entry) (cs : Codes) → HasCode ns p c → AllHaveCode ns bs cs →
-    AllHaveCode ns (with_name_at i k p bs) (set_value_at cs i c)
+    AllHaveCode ns (with_name_at i k p bs) (set cs i c)
 codes_kept ns i k p c [] [] q h = tt
 codes_kept ns i k p c [] (d ∷ cs) q h = absurd h
 codes_kept ns i k p c (b ∷ bs) [] q h = absurd h
-codes_kept ns zero k p c (b ∷ bs) (d ∷ cs) q h = (h.0, q, h.2)
-codes_kept ns (suc i) k p c (b ∷ bs) (d ∷ cs) q h = (h.0, h.1, codes_kept ns i k p c bs cs q h.2)
+codes_kept ns zero k p c (b ∷ bs) (d ∷ cs) q h = (q, h.1)
+codes_kept ns (suc i) k p c (b ∷ bs) (d ∷ cs) q h = (h.0, codes_kept ns i k p c bs cs q h.1)
 
 pub stored_at : (i : ℕ) (k : kinds.Top) (p : Payload) (c : Option Code) (bs : List Entry) (cs : Codes) → ((ns : List Name) → HasCode ns p c) → AreStored bs cs →
-    AreStored (with_name_at i k p bs) (set_value_at cs i c)
+    AreStored (with_name_at i k p bs) (set cs i c)
 stored_at i k p c bs cs q h =
-    let F : List Name → Type 0 = λ ns. AllHaveCode ns (with_name_at i k p bs) (set_value_at cs i c) in
+    let F : List Name → Type 0 = λ ns. AllHaveCode ns (with_name_at i k p bs) (set cs i c) in
     subst F (sym (names_kept i k p bs)) (codes_kept (names_in bs) i k p c bs cs (q (names_in bs)) h)
-
--- where there is no code, nothing changes
-pub no_code : (i : ℕ) (c : Option Code) (cs : Codes) → None ≡ slice_get (values_of cs) i → cs ≡ set_value_at cs i c
-no_code i c [] h = refl
-no_code zero c (d ∷ cs) h = absurd cc
-no_code (suc i) c (d ∷ cs) h = ap (λ y. d ∷ y) (no_code i c cs h)
 
 no_first : (o : Option ℕ) → Some 0 ≡ option_map suc o → ⊥
 no_first None e = cc
@@ -189,30 +170,25 @@ set_at x k p i (b ∷ bs) h = by (bytes_eq x b.0) i h (λ j e. set_at x k p j bs
     by false (suc j) e f = ap (λ y. b ∷ y) (f j (before (place_of (names_in bs) x) j e))
 
 -- what is at a place
-abbrev pub between : Option Entry → Option (Vec ℕ Global × Option Code) → Slot
+abbrev pub between : Option Entry → Option (Option Code) → Slot
 between b None = nothing_slot
 between None (Some c) = nothing_slot
-between (Some b) (Some c) = slot_of b.1 b.2 c.1
-
-pub slot_between : (bs : List Entry) (cs : Codes) (i : ℕ) → between (slice_get bs i) (slice_get cs i) ≡ unwrap_or (slot_at (table bs cs) i) nothing_slot
-slot_between [] [] i = refl
-slot_between (b ∷ bs) [] i = none (slice_get (b ∷ bs) i)
-  where
-    none : (o : Option Entry) → between o None ≡ nothing_slot
-    none None = refl
-    none (Some b) = refl
-slot_between [] (c ∷ cs) zero = refl
-slot_between [] (c ∷ cs) (suc i) = slot_between [] cs i
-slot_between (b ∷ bs) (c ∷ cs) zero = refl
-slot_between (b ∷ bs) (c ∷ cs) (suc i) = slot_between bs cs i
+between (Some b) (Some c) = slot_of b.1 b.2 c
 
 slot_else : (b : Option Entry) → between b None ≡ nothing_slot
 slot_else None = refl
 slot_else (Some b) = refl
 
-slot_unless : (c : Option (Vec ℕ Global × Option Code)) → between None c ≡ nothing_slot
+slot_unless : (c : Option (Option Code)) → between None c ≡ nothing_slot
 slot_unless None = refl
 slot_unless (Some c) = refl
+
+pub slot_between : (bs : List Entry) (cs : Codes) (i : ℕ) → between (slice_get bs i) (slice_get cs i) ≡ unwrap_or (slot_at (table bs cs) i) nothing_slot
+slot_between [] cs i = slot_unless (slice_get cs i)
+slot_between (b ∷ bs) [] zero = refl
+slot_between (b ∷ bs) [] (suc i) = sym (slot_else (slice_get bs i)) ∙ slot_between bs [] i
+slot_between (b ∷ bs) (c ∷ cs) zero = refl
+slot_between (b ∷ bs) (c ∷ cs) (suc i) = slot_between bs cs i
 
 pub slot_of_no_name : (bs : List Entry) (cs : Codes) (i : ℕ) → None ≡ slice_get bs i → nothing_slot ≡ unwrap_or (slot_at (table bs cs) i) nothing_slot
 slot_of_no_name bs cs i e = sym (slot_unless (slice_get cs i)) ∙ ap (λ b. between b (slice_get cs i)) e ∙ slot_between bs cs i
@@ -220,15 +196,6 @@ slot_of_no_name bs cs i e = sym (slot_unless (slice_get cs i)) ∙ ap (λ b. bet
 pub slot_of_no_code : (bs : List Entry) (cs : Codes) (i : ℕ) → None ≡ slice_get cs i → nothing_slot ≡ unwrap_or (slot_at (table bs cs) i) nothing_slot
 slot_of_no_code bs cs i e = sym (slot_else (slice_get bs i)) ∙ ap (λ c. between (slice_get bs i) c) e ∙ slot_between bs cs i
 
-pub slot_there : (bs : List Entry) (cs : Codes) (i : ℕ) (b : Entry) (c : Vec ℕ Global × Option Code) (s : Slot) → Some b ≡ slice_get bs i → Some c ≡ slice_get cs i →
-    s ≡ slot_of b.1 b.2 c.1 → s ≡ unwrap_or (slot_at (table bs cs) i) nothing_slot
+pub slot_there : (bs : List Entry) (cs : Codes) (i : ℕ) (b : Entry) (c : Option Code) (s : Slot) → Some b ≡ slice_get bs i → Some c ≡ slice_get cs i →
+    s ≡ slot_of b.1 b.2 c → s ≡ unwrap_or (slot_at (table bs cs) i) nothing_slot
 slot_there bs cs i b c s e f g = g ∙ ap (λ o. between o (Some c)) e ∙ ap (λ o. between (slice_get bs i) o) f ∙ slot_between bs cs i
-
-pub inserted : (k : Vec ℕ Global) (v : Option Code) (cs : Codes) → insert_entry (λ (x y : Vec ℕ Global). bytes_eq x.items y.items) cs k v ≡ with_code k v cs
-inserted k v [] = refl
-inserted k v (c ∷ cs) = by (bytes_eq k.items c.0.items) (inserted k v cs)
-  where
-    by : (q : Bool) → insert_entry (λ (x y : Vec ℕ Global). bytes_eq x.items y.items) cs k v ≡ with_code k v cs →
-        (if q then (c.0, v) ∷ cs else c ∷ insert_entry (λ (x y : Vec ℕ Global). bytes_eq x.items y.items) cs k v) ≡ (if q then (c.0, v) ∷ cs else c ∷ with_code k v cs)
-    by true e = refl
-    by false e = ap (λ y. c ∷ y) e

@@ -1,5 +1,5 @@
 -- The operations of the bodies, by place.
-use Rattle.std.specs.Prelude.{◌≡◌, ℕ, List, [], ◌∷◌, ◌++◌, set, Option, Some, None}
+use Rattle.std.specs.Prelude.{◌≡◌, List, [], ◌∷◌, Option, Some, None}
 use Rattle.nesl_eval_code.specs.declared.code.Code.{Code}
 use Rattle.nesl_eval_code.specs.Flat.{block}
 use Rattle.nesl_eval_ops.specs.declared.ops.Ops.{Ops}
@@ -18,9 +18,4 @@ abbrev pub AreLaid : Codes → List (Option Ops) → Type 0
 AreLaid [] [] = Unit {0}
 AreLaid [] (o ∷ os) = ⊥
 AreLaid (c ∷ cs) [] = ⊥
-AreLaid (c ∷ cs) (o ∷ os) = IsLaid c.1 o × AreLaid cs os
-
--- puts the operations at a place, or last if there is no place
-abbrev pub with_body : Option ℕ → Option Ops → List (Option Ops) → List (Option Ops)
-with_body (Some k) o os = set os k o
-with_body None o os = os ++ o ∷ []
+AreLaid (c ∷ cs) (o ∷ os) = IsLaid c o × AreLaid cs os

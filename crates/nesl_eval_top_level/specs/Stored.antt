@@ -1,11 +1,9 @@
 -- The top level, as an environment and as a table.
-use Rattle.std.specs.Prelude.{◌≡◌, ℕ, List, [], ◌∷◌, ◌++◌, map, Option, Some, None, is_some, if◌then◌else◌}
-use Rattle.std.specs.Str.{bytes_eq}
+use Rattle.std.specs.Prelude.{ℕ, List, [], ◌∷◌, ◌++◌, map, set, Option, Some, None, is_some, if◌then◌else◌}
 use Rattle.nesl_types.specs.declared.bindings.Top as kinds
 use Rattle.nesl_types.specs.declared.bindings.Top.TheVariants as kind
 use Rattle.nesl_values.specs.View.{tree_of}
 use Rattle.nesl_syntax_tree.specs.Views as syntax
-use Rattle.std.proofs.Common.{Vec, Global}
 use Rattle.nesl_eval_code.specs.declared.code.Code.{Code}
 use Rattle.nesl_eval_top_level.specs.declared.env.Payload.{Payload}
 use Rattle.nesl_eval_top_level.specs.declared.env.Payload.TheVariants as payload
@@ -36,15 +34,15 @@ slot_of t (payload.Function p e) None = nothing_slot
 slot_of (kind.Datatype tag held) payload.Datatype c = datatype_slot tag
 slot_of t payload.Datatype c = nothing_slot
 
--- the same names with the codes of their bodies
+-- the code of each name's body, by place; a name that is no function has none
 abbrev pub Codes : Type 0
-Codes = List (Vec ℕ Global × Option Code)
+Codes = List (Option Code)
 
--- what each place holds; a code without a name means nothing
+-- each name with what its place holds; a place past the codes holds nothing
 abbrev pub table : List Entry → Codes → Table
-table bs [] = []
-table [] (c ∷ cs) = (c.0.items, nothing_slot) ∷ table [] cs
-table (b ∷ bs) (c ∷ cs) = (c.0.items, slot_of b.1 b.2 c.1) ∷ table bs cs
+table [] cs = []
+table (b ∷ bs) [] = (b.0, nothing_slot) ∷ table bs []
+table (b ∷ bs) (c ∷ cs) = (b.0, slot_of b.1 b.2 c) ∷ table bs cs
 
 -- the code of a function's body means the body, in which only the parameter is local
 abbrev pub HasCode : List Name → Payload → Option Code → Type 0
@@ -54,12 +52,12 @@ HasCode names (payload.Function p e) (Some c) =
 HasCode names (payload.Function p e) None = ⊥
 HasCode names payload.Datatype c = Unit {0}
 
--- the same names, each with the code of its body
+-- as many codes as names, and at each place the code of the name's payload
 abbrev pub AllHaveCode : List Name → List Entry → Codes → Type 0
 AllHaveCode names [] [] = Unit {0}
 AllHaveCode names [] (c ∷ cs) = ⊥
 AllHaveCode names (b ∷ bs) [] = ⊥
-AllHaveCode names (b ∷ bs) (c ∷ cs) = (c.0.items ≡ b.0) × HasCode names b.2 c.1 × AllHaveCode names bs cs
+AllHaveCode names (b ∷ bs) (c ∷ cs) = HasCode names b.2 c × AllHaveCode names bs cs
 
 -- the names in order
 abbrev pub names_in : List Entry → List Name
@@ -73,7 +71,7 @@ AreStored bs cs = AllHaveCode (names_in bs) bs cs
 abbrev pub with_place : Name → List Name → List Name
 with_place x ns = if is_some (place_of ns x) then ns else ns ++ x ∷ []
 
--- a name that is bound already keeps its place, and a new one goes last
-abbrev pub with_code : Vec ℕ Global → Option Code → Codes → Codes
-with_code x c [] = (x, c) ∷ []
-with_code x c (d ∷ ds) = if bytes_eq x.items d.0.items then (d.0, c) ∷ ds else d ∷ with_code x c ds
+-- puts an item at a place, or last if there is no place
+abbrev pub put : {X : Type 0} → Option ℕ → X → List X → List X
+put (Some k) x xs = set xs k x
+put None x xs = xs ++ x ∷ []

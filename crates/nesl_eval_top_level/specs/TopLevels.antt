@@ -7,7 +7,7 @@ use Rattle.nesl_eval_top_level.specs.Stored.{table}
 
 -- the table that is lent
 abbrev pub table_in : TopLevel → Table
-table_in l = table l.context.now l.prepared.now.entries
+table_in l = table l.context.now l.prepared.now
 
 -- the operations that are lent
 abbrev pub bodies_in : TopLevel → List (Option Ops)

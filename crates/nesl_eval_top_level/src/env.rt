@@ -3,24 +3,21 @@
 ghost use Rattle.std.specs.Prelude.{◌≡◌, ◌<◌, ℕ, IfOk, OnOk, OnErr, [], length, slice_get, unwrap_or};
 ghost use Rattle.std.specs.Prelude.{vec_len, vec_capacity, IfSome, List, Some, None, set};
 ghost use Rattle.std.specs.Option.{option_map};
-ghost use Rattle.indexmap.specs.IndexMap.{spare, set_value_at};
 ghost use Rattle.nesl_syntax_tree.specs.Views.{tree_of};
 ghost use Rattle.nesl_eval_meaning.specs.Names.{Name};
 ghost use Rattle.nesl_eval_code.specs.Means.{Means, IsTableOf, names_of, place_of};
 ghost use Rattle.nesl_eval_code.specs.Run.{slot_at, nothing_slot};
-ghost use Rattle.nesl_eval_code.specs.Resolving.{keys_of};
-ghost use Rattle.nesl_eval_top_level.specs.Stored.{names_in, environment, slot_of, HasCode, with_place, with_code};
+ghost use Rattle.nesl_eval_top_level.specs.Stored.{names_in, environment, slot_of, HasCode, with_place, put};
 ghost use Rattle.nesl_eval_nodes.specs.Holds.{held_slot};
 ghost use Rattle.nesl_eval_top_level.specs.TopLevels.{table_in, bodies_in};
-ghost use Rattle.nesl_eval_top_level.specs.Laid.{IsLaid, with_body};
+ghost use Rattle.nesl_eval_top_level.specs.Laid.{IsLaid};
 ghost use Rattle.nesl_eval_ops.specs.View.{HasBodies};
 
-use indexmap::IndexMap;
-use nesl_eval_code::{Code, Places, code_of_body, code_of_expression, place_in};
+use nesl_eval_code::{Code, Places, code_of_body, code_of_expression};
 use nesl_eval_nodes::held::Held;
 use nesl_eval_ops::{Ops, body_ops};
 use nesl_syntax_tree::tree::{Exp, Pattern};
-use nesl_types::{Context, Top};
+use nesl_types::{Context, NameOrder, Top};
 use nesl_values::Value;
 use std::alloc::{AllocError, Global};
 use std::marker::Model;
@@ -39,8 +36,8 @@ pub enum Payload {
 /// The top-level names in order of first definition, each with its type and its payload.
 pub struct Env {
     context: Context<Payload>,
-    /// The context's names in its order. The name of a function has the code of its body.
-    prepared: IndexMap<Vec<u8>, Option<Code>>,
+    /// The code of each name's body, by place. A name that is no function has none.
+    prepared: Vec<Option<Code>>,
     /// The operations of these bodies, by place.
     bodies: Vec<Option<Ops>>,
 }
@@ -74,14 +71,14 @@ impl Model for Env {
     ghost use Rattle.nesl_eval_top_level.specs.Stored.{AreStored};
     ghost use Rattle.nesl_eval_top_level.specs.Laid.{AreLaid};
 
-    ghost invariant = { λ e. AreStored e.context e.prepared.entries × AreLaid e.prepared.entries e.bodies.items };
+    ghost invariant = { λ e. AreStored e.context e.prepared.items × AreLaid e.prepared.items e.bodies.items };
 }
 
 /// The top level as an evaluation sees it: what each place holds, and the place of each name.
 #[derive(Clone, Copy)]
 pub struct TopLevel<'a> {
     context: &'a Context<Payload>,
-    prepared: &'a IndexMap<Vec<u8>, Option<Code>>,
+    prepared: &'a [Option<Code>],
     bodies: &'a [Option<Ops>],
 }
 
@@ -93,7 +90,7 @@ impl<'a> TopLevel<'a> {
         let Some((_, top, payload)) = self.context.at(place) else {
             return Held::Nothing;
         };
-        let Some((_, code)) = self.prepared.get_index(place) else {
+        let Some(code) = self.prepared.get(place) else {
             return Held::Nothing;
         };
         held_with(top, payload, code)
@@ -103,7 +100,7 @@ impl<'a> TopLevel<'a> {
     pub fn place_of(&self, name: &[u8]) -> Option<usize>
         ensures { result ≡ place_of (names_of (table_in self.now)) name.now }
     {
-        place_in(self.prepared, name)
+        self.context.names().place_of(name)
     }
 
     /// The operations of the bodies, by place. A name that is no function has none.
@@ -145,15 +142,16 @@ fn place_without_code(place: Option<usize>, payload: &Payload) -> Option<usize>
 
 /// The code of a function's body, in which the function's own name has its place already. A name that is no function
 /// has no code.
+#[inline(never)]
 fn code_of_payload(
     alloc: Global,
-    codes: &IndexMap<Vec<u8>, Option<Code>>,
+    names: &NameOrder,
     name: &[u8],
     place: Option<usize>,
     payload: &Payload,
 ) -> Result<Option<Code>, AllocError>
-    requires { place ≡ place_of (keys_of codes.now.entries) name.now }
-    ensures { IfOk result (HasCode (with_place name.now (keys_of codes.now.entries)) payload.now) }
+    requires { place ≡ place_of names.now name.now }
+    ensures { IfOk result (HasCode (with_place name.now names.now) payload.now) }
 {
     match payload {
         Payload::Function { pattern, body } => {
@@ -161,7 +159,7 @@ fn code_of_payload(
                 Some(_) => None,
                 None => Some(name),
             };
-            let places = Places { bodies: codes, own };
+            let places = Places { names, own };
             let code = code_of_body(alloc, &places, pattern, body)?;
             Ok(Some(code))
         }
@@ -169,93 +167,53 @@ fn code_of_payload(
     }
 }
 
-/// The name as a key, and the code of its payload. This reserves room for one more name.
+/// The operations of a body.
 #[inline(never)]
-fn entry_of(
-    alloc: Global,
-    codes: &mut IndexMap<Vec<u8>, Option<Code>>,
-    name: &[u8],
-    place: Option<usize>,
-    payload: &Payload,
-) -> Result<(Vec<u8>, Option<Code>), AllocError>
-    requires { place ≡ place_of (keys_of codes.old.entries) name.now }
-    ensures entries { codes.new.entries ≡ codes.old.entries }
-    ensures room { OnOk result (0 < spare codes.new) }
-    ensures key { IfOk result (λ e. e.0.items ≡ name.now) }
-    ensures code { IfOk result (λ e. HasCode (with_place name.now (keys_of codes.old.entries)) payload.now e.1) }
+fn body_of(alloc: Global, code: &Option<Code>) -> Result<Option<Ops>, AllocError>
+    ensures { IfOk result (IsLaid code.now) }
 {
-    codes.reserve(1)?;
-    let key = Vec::from_slice(alloc, name)?;
-    let code = code_of_payload(alloc, codes, name, place, payload)?;
-    Ok((key, code))
-}
-
-/// The operations of a body. This reserves room for one more.
-#[inline(never)]
-fn body_of(
-    alloc: Global,
-    bodies: &mut Vec<Option<Ops>>,
-    code: &Option<Code>,
-) -> Result<Option<Ops>, AllocError>
-    ensures items { bodies.new.items ≡ bodies.old.items }
-    ensures room { OnOk result (vec_len bodies.new < vec_capacity bodies.new) }
-    ensures laid { IfOk result (IsLaid code.now) }
-{
-    bodies.reserve(1)?;
     match code {
         Some(code) => Ok(Some(body_ops(alloc, code)?)),
         None => Ok(None),
     }
 }
 
-/// Gives the name this code. There is room for one more name.
-fn store(codes: &mut IndexMap<Vec<u8>, Option<Code>>, name: Vec<u8>, code: Option<Code>)
-    requires { 0 < spare codes.old }
-    ensures { codes.new.entries ≡ with_code name code codes.old.entries }
+/// Makes room for the code and the operations of one name more.
+#[inline(never)]
+fn reserve(codes: &mut Vec<Option<Code>>, bodies: &mut Vec<Option<Ops>>) -> Result<(), AllocError>
+    ensures codes { codes.new.items ≡ codes.old.items }
+    ensures bodies { bodies.new.items ≡ bodies.old.items }
+    ensures code_room { OnOk result (vec_len codes.new < vec_capacity codes.new) }
+    ensures body_room { OnOk result (vec_len bodies.new < vec_capacity bodies.new) }
 {
-    match codes.insert(name, code) {
-        Ok(_) => {}
-        Err(_) => {}
-    }
+    codes.reserve(1)?;
+    bodies.reserve(1)?;
+    Ok(())
 }
 
-/// Drops the code of the name at a place.
-fn clear_code(codes: &mut IndexMap<Vec<u8>, Option<Code>>, place: usize)
-    ensures { codes.new.entries ≡ set_value_at codes.old.entries place None }
-{
-    if let Some(code) = codes.get_index_mut(place) {
-        if code.is_some() {
-            *code = None;
-        }
-    }
-}
-
-/// Drops the body at a place.
-fn clear_body(bodies: &mut Vec<Option<Ops>>, place: usize)
-    ensures { bodies.new.items ≡ set bodies.old.items place None }
-{
-    if let Some(body) = bodies.get_mut(place) {
-        if body.is_some() {
-            *body = None;
-        }
-    }
-}
-
-/// Puts the body at this place, or last if there is no place. There is room for one more.
-fn store_body(bodies: &mut Vec<Option<Ops>>, place: Option<usize>, body: Option<Ops>)
-    requires { vec_len bodies.old < vec_capacity bodies.old }
-    ensures { bodies.new.items ≡ with_body place body bodies.old.items }
+/// Puts the item at this place, or last if there is no place. There is room for one more.
+fn store<X: Drop>(items: &mut Vec<X>, place: Option<usize>, item: X)
+    requires { vec_len items.old < vec_capacity items.old }
+    ensures { items.new.items ≡ put place item items.old.items }
 {
     match place {
         Some(place) => {
-            if let Some(there) = bodies.get_mut(place) {
-                *there = body;
+            if let Some(there) = items.get_mut(place) {
+                *there = item;
             }
         }
-        None => match bodies.push(body) {
-            Ok(()) => {}
-            Err(_) => {}
-        },
+        None => items.push_reserved(item),
+    }
+}
+
+/// Drops what is at a place.
+fn clear<X: Drop>(items: &mut Vec<Option<X>>, place: usize)
+    ensures { items.new.items ≡ set items.old.items place None }
+{
+    if let Some(item) = items.get_mut(place) {
+        if item.is_some() {
+            *item = None;
+        }
     }
 }
 
@@ -268,7 +226,7 @@ impl Env {
     {
         Env {
             context: Context::new(alloc),
-            prepared: IndexMap::new(alloc),
+            prepared: Vec::new(alloc),
             bodies: Vec::new(alloc),
         }
     }
@@ -309,7 +267,7 @@ impl Env {
     {
         TopLevel {
             context: &self.context,
-            prepared: &self.prepared,
+            prepared: self.prepared.as_slice(),
             bodies: self.bodies.as_slice(),
         }
     }
@@ -326,7 +284,7 @@ impl Env {
         ensures ok { OnOk result (self.new ≡ with_name name.now top payload self.old) }
         ensures err { OnErr result (self.new ≡ self.old) }
     {
-        let place = place_in(&self.prepared, name);
+        let place = self.context.names().place_of(name);
         if let Some(there) = place_without_code(place, &payload) {
             return self.set_at(alloc, there, top, payload);
         }
@@ -347,8 +305,8 @@ impl Env {
         ensures err { OnErr result (self.new ≡ self.old) }
     {
         self.context.replace(alloc, there, top, payload)?;
-        clear_code(&mut self.prepared, there);
-        clear_body(&mut self.bodies, there);
+        clear(&mut self.prepared, there);
+        clear(&mut self.bodies, there);
         Ok(())
     }
 
@@ -366,11 +324,12 @@ impl Env {
         ensures ok { OnOk result (self.new ≡ with_name name.now top payload self.old) }
         ensures err { OnErr result (self.new ≡ self.old) }
     {
-        let (key, code) = entry_of(alloc, &mut self.prepared, name, place, &payload)?;
-        let body = body_of(alloc, &mut self.bodies, &code)?;
+        reserve(&mut self.prepared, &mut self.bodies)?;
+        let code = code_of_payload(alloc, self.context.names(), name, place, &payload)?;
+        let body = body_of(alloc, &code)?;
         self.context.set(alloc, name, top, payload)?;
-        store_body(&mut self.bodies, place, body);
-        store(&mut self.prepared, key, code);
+        store(&mut self.prepared, place, code);
+        store(&mut self.bodies, place, body);
         Ok(())
     }
 }
@@ -380,7 +339,7 @@ pub fn prepare(alloc: Global, env: &Env, exp: &Exp) -> Result<Code, AllocError>
     ensures { IfOk result (λ c. Means (names_in env.now) [] c (tree_of exp.now)) }
 {
     let places = Places {
-        bodies: &env.prepared,
+        names: env.context.names(),
         own: None,
     };
     code_of_expression(alloc, &places, exp)

@@ -2,7 +2,6 @@
 
 ghost use Rattle.std.specs.Prelude.{◌≡◌, ◌++◌, ◌<◌, ◌==◌, if◌then◌else◌, length, slice_get, Some, true, IfOk, OnOk};
 ghost use Rattle.std.specs.Prelude.{codes, decimal, map};
-ghost use Rattle.nesl_types.specs.Texts.{type_text as text_of_type, scheme_text as text_of_scheme, name_at};
 ghost use Rattle.nesl_reply.specs.Faults.{fault_text};
 ghost use Rattle.nesl_reply.specs.declared.fault.Fault.TheVariants.{Memory};
 ghost use Rattle.nesl_reply.specs.Replies.{reply_line, budget_text, reply_text as text_of_reply, cost_text, used_text};
@@ -12,7 +11,7 @@ use crate::fault::{Fault, write_fault};
 use crate::whole::write_value;
 use crate::writing::{write_bytes, write_number};
 use nesl_scalars::Cost;
-use nesl_types::{Context, Scheme, Ty, scheme_text, type_text};
+use nesl_types::{Context, Scheme, Ty, write_scheme, write_type};
 use nesl_values::Value;
 use std::alloc::{AllocError, Global};
 
@@ -66,14 +65,13 @@ pub fn reply_text<P: Drop>(
     ensures { IfOk result (λ text. text.items ≡ text_of_reply context.now reply.now) }
 {
     let mut out = Vec::with_capacity(alloc, ROOM)?;
-    write_reply(&mut out, alloc, *reply, context)?;
+    write_reply(&mut out, *reply, context)?;
     write_bytes(&mut out, b"\n")?;
     Ok(out)
 }
 
 fn write_reply<P: Drop>(
     out: &mut Vec<u8>,
-    alloc: Global,
     reply: Reply<'_>,
     context: &Context<P>,
 ) -> Result<(), AllocError>
@@ -85,18 +83,18 @@ fn write_reply<P: Drop>(
             write_bytes(out, b" = ")?;
             write_value(out, value, ty, context)?;
             write_bytes(out, b" : ")?;
-            write_type(out, alloc, ty, context)?;
+            write_type(out, ty, context)?;
             write_cost(out, cost)
         }
         Reply::FunTold(name, scheme) => {
             write_bytes(out, name)?;
             write_bytes(out, b" : ")?;
-            write_scheme(out, alloc, scheme, context)
+            write_scheme(out, scheme, context)
         }
         Reply::DatatypeTold(name, ty) => {
             write_bytes(out, name)?;
             write_bytes(out, b" : ")?;
-            write_type(out, alloc, ty, context)?;
+            write_type(out, ty, context)?;
             write_bytes(out, b" -> ")?;
             write_bytes(out, name)
         }
@@ -109,37 +107,13 @@ fn write_reply<P: Drop>(
         ),
         Reply::Shown(ty) => {
             write_bytes(out, b"type: ")?;
-            write_type(out, alloc, ty, context)
+            write_type(out, ty, context)
         }
         Reply::Blank => write_bytes(out, b"ok"),
         Reply::More => write_bytes(out, b"more"),
         Reply::Cleared(lines) => { write_counted(out, b"reset: lines ", lines) }
         Reply::Refused(fault) => write_fault(out, fault),
     }
-}
-
-fn write_type<P: Drop>(
-    out: &mut Vec<u8>,
-    alloc: Global,
-    ty: &Ty,
-    context: &Context<P>,
-) -> Result<(), AllocError>
-    ensures { OnOk result (out.new.items ≡ out.old.items ++ text_of_type (name_at context.now) true ty.now) }
-{
-    let text = type_text(alloc, ty, context)?;
-    write_bytes(out, &text)
-}
-
-fn write_scheme<P: Drop>(
-    out: &mut Vec<u8>,
-    alloc: Global,
-    scheme: &Scheme,
-    context: &Context<P>,
-) -> Result<(), AllocError>
-    ensures { OnOk result (out.new.items ≡ out.old.items ++ text_of_scheme (name_at context.now) scheme.now) }
-{
-    let text = scheme_text(alloc, scheme, context)?;
-    write_bytes(out, &text)
 }
 
 // Writes ` (work W, depth D)`.

@@ -1,4 +1,5 @@
 pub mod Members
+pub mod InOrder
 pub mod Bound
 pub mod Written
 pub mod Places

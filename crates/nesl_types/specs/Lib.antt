@@ -1,4 +1,5 @@
 pub mod Class
+pub mod Order
 pub mod Names
 pub mod Texts
 pub mod Scheme

@@ -14,6 +14,12 @@ is_datatype tag (Function scheme) = false
 is_datatype tag (Datatype n held) = n == tag
 
 module _ {P : Type 0} where
+  -- names, each with what it is and its payload
+  abbrev pub named : List (List ℕ) → List (Top × P) → List (List ℕ × Top × P)
+  named [] entries = []
+  named (name ∷ names) [] = []
+  named (name ∷ names) (e ∷ entries) = (name, e.0, e.1) ∷ named names entries
+
   -- what a name is, and its payload
   abbrev pub found : List ℕ → List (List ℕ × Top × P) → Option (Top × P)
   found name [] = None
@@ -35,15 +41,15 @@ module _ {P : Type 0} where
   abbrev pub datatype_at : List (List ℕ × Top × P) → ℕ → Option (List ℕ × Top × P)
   datatype_at names tag = find (λ b. is_datatype tag b.1) names
 
-  -- how many names come before it
-  abbrev pub datatype_place : List (List ℕ × Top × P) → ℕ → ℕ
-  datatype_place [] tag = 0
-  datatype_place (b ∷ bs) tag = if is_datatype tag b.1 then 0 else suc (datatype_place bs tag)
+-- how many come before the first that is the datatype with the tag
+abbrev pub datatype_place : List Top → ℕ → ℕ
+datatype_place [] tag = 0
+datatype_place (t ∷ ts) tag = if is_datatype tag t then 0 else suc (datatype_place ts tag)
 
-  -- whether the name at a place is the datatype with the tag
-  abbrev pub is_datatype_at : List (List ℕ × Top × P) → ℕ → ℕ → Bool
-  is_datatype_at names place tag = option_map_or (λ b. is_datatype tag b.1) (slice_get names place) false
+-- whether what is at a place is the datatype with the tag
+abbrev pub is_datatype_at : List Top → ℕ → ℕ → Bool
+is_datatype_at tops place tag = option_map_or (is_datatype tag) (slice_get tops place) false
 
-  -- the place that is noted for a tag is not after its datatype
-  abbrev pub AreReached : List (List ℕ × Top × P) → List ℕ → Type 0
-  AreReached names places = (tag : ℕ) → slice_index places tag ≤ datatype_place names tag
+-- the place that is noted for a tag is not after its datatype
+abbrev pub AreReached : List Top → List ℕ → Type 0
+AreReached tops places = (tag : ℕ) → slice_index places tag ≤ datatype_place tops tag

@@ -1,8 +1,8 @@
 //! What each top-level name is.
 
 use crate::kept::{Kept, Marks};
+use crate::order::NameOrder;
 use crate::schemes::Scheme;
-use indexmap::IndexMap;
 use nesl_types_shared::Ty;
 use std::alloc::{AllocError, Global};
 use std::marker::Model;
@@ -38,7 +38,9 @@ struct Entry<P> {
 
 /// What each top-level name is, each with a payload, in order of first definition.
 pub struct Context<P> {
-    bindings: IndexMap<Vec<u8>, Entry<P>>,
+    names: NameOrder,
+    /// What each name is, in the order of the names.
+    entries: Vec<Entry<P>>,
     /// The place of each datatype, by its tag. After a name was made something else, a place may be too small.
     places: Vec<usize>,
     /// The types of the names, each once.
@@ -49,16 +51,17 @@ pub struct Context<P> {
 impl<P: Drop> Drop for Context<P> {
     fn drop(self) {
         let Context {
-            bindings,
+            names,
+            entries,
             places,
             kept,
         } = self;
-        drop((bindings, places, kept));
+        drop((names, entries, places, kept));
     }
 }
 
 impl<P> Model for Context<P> {
-    ghost use Rattle.std.specs.Prelude.{ℕ, List, map};
+    ghost use Rattle.std.specs.Prelude.{◌≡◌, ℕ, List, map, length};
     ghost use Rattle.nesl_types.specs.declared.bindings.Top.{Top};
     ghost use Rattle.std.specs.Coded.{codes};
     ghost use Rattle.nesl_types_shared.specs.contracts.types.Ty as ty;
@@ -67,19 +70,21 @@ impl<P> Model for Context<P> {
 
     ghost coded = { Prim.hlevel (codes, ty.the_row.coded, P.code) };
 
-    ghost use Rattle.nesl_types.specs.Names.{AreReached};
+    ghost use Rattle.nesl_types.specs.Names.{AreReached, named};
 
-    ghost view = { λ c. map (λ e. (e.0.items, e.1.top, e.1.payload)) c.bindings.entries };
+    ghost view = { λ c. named c.names (map (λ e. (e.top, e.payload)) c.entries.items) };
 
-    ghost invariant = { λ c. AreReached (map (λ e. (e.0.items, e.1.top, e.1.payload)) c.bindings.entries)
-        c.places.items };
+    ghost invariant = { λ c. (length c.names ≡ length c.entries.items)
+        × AreReached (map (λ e. e.top) c.entries.items) c.places.items };
 }
 
-ghost use Rattle.std.specs.Prelude.{◌≡◌, ◌≢◌, ◌≤◌, ◌<◌, ℕ, Some, false, map, slice_index, vec_len, vec_capacity, IfOk};
-ghost use Rattle.std.specs.Prelude.{slice_get, IsTrue, OnOk};
+ghost use Rattle.std.specs.Prelude.{◌≡◌, ◌≢◌, ◌≤◌, ◌<◌, ℕ, List, Some, None, false, map, length, IfOk, OnOk, OnErr};
+ghost use Rattle.std.specs.Prelude.{slice_get, slice_index, vec_len, vec_capacity, IsTrue};
 ghost use Rattle.std.specs.Option.{option_map};
 ghost use Rattle.nesl_types.specs.declared.bindings.Top.{Top as Tops};
-ghost use Rattle.nesl_types.specs.Names.{AreReached, is_datatype, is_datatype_at, datatype_place, with_name_at};
+ghost use Rattle.nesl_types.specs.Order.{place_of};
+ghost use Rattle.nesl_types.specs.Names.{AreReached, is_datatype, is_datatype_at, datatype_place, with_name};
+ghost use Rattle.nesl_types.specs.Names.{named, with_name_at};
 
 // Whether a name is the datatype with the tag.
 fn is_datatype(top: &Top, tag: u64) -> bool
@@ -92,26 +97,26 @@ fn is_datatype(top: &Top, tag: u64) -> bool
 }
 
 // Whether the entry at a place is the datatype with the tag.
-fn is_datatype_at<P: Drop>(bindings: &IndexMap<Vec<u8>, Entry<P>>, place: usize, tag: u64) -> bool
-    ensures { result ≡ is_datatype_at (map (λ e. (e.0.items, e.1.top, e.1.payload)) bindings.now.entries) place tag }
+fn is_datatype_at<P: Drop>(entries: &[Entry<P>], place: usize, tag: u64) -> bool
+    ensures { result ≡ is_datatype_at (map (λ e. e.top) entries.now) place tag }
 {
-    match bindings.get_index(place) {
-        Some((_, entry)) => is_datatype(&entry.top, tag),
+    match entries.get(place) {
+        Some(entry) => is_datatype(&entry.top, tag),
         None => false,
     }
 }
 
 // How many entries come before the datatype with the tag. There are at least as many as `from`.
-fn datatype_place<P: Drop>(bindings: &IndexMap<Vec<u8>, Entry<P>>, tag: u64, from: usize) -> usize
-    requires { from ≤ datatype_place (map (λ e. (e.0.items, e.1.top, e.1.payload)) bindings.now.entries) tag }
-    ensures { result ≡ datatype_place (map (λ e. (e.0.items, e.1.top, e.1.payload)) bindings.now.entries) tag }
+fn datatype_place<P: Drop>(entries: &[Entry<P>], tag: u64, from: usize) -> usize
+    requires { from ≤ datatype_place (map (λ e. e.top) entries.now) tag }
+    ensures { result ≡ datatype_place (map (λ e. e.top) entries.now) tag }
 {
-    for place in from..bindings.len() {
-        if is_datatype_at(bindings, place, tag) {
+    for place in from..entries.len() {
+        if is_datatype_at(entries, place, tag) {
             return place;
         }
     }
-    bindings.len()
+    entries.len()
 }
 
 // The tag of a datatype.
@@ -125,18 +130,14 @@ fn tag_of(top: &Top) -> Option<u64>
 }
 
 // Notes the place of the datatype with the tag, where one was set. A tag that skips some is not noted.
-fn note_place<P: Drop>(
-    places: &mut Vec<usize>,
-    bindings: &IndexMap<Vec<u8>, Entry<P>>,
-    tag: Option<u64>,
-)
+fn note_place<P: Drop>(places: &mut Vec<usize>, entries: &[Entry<P>], tag: Option<u64>)
     requires room { vec_len places.old < vec_capacity places.old }
     requires others { (other : ℕ) → tag ≢ Some other → slice_index places.old.items other
-        ≤ datatype_place (map (λ e. (e.0.items, e.1.top, e.1.payload)) bindings.now.entries) other }
-    ensures { AreReached (map (λ e. (e.0.items, e.1.top, e.1.payload)) bindings.now.entries) places.new.items }
+        ≤ datatype_place (map (λ e. e.top) entries.now) other }
+    ensures { AreReached (map (λ e. e.top) entries.now) places.new.items }
 {
     if let Some(tag) = tag {
-        let place = datatype_place(bindings, tag, 0);
+        let place = datatype_place(entries, tag, 0);
         let number = tag as usize;
         if number < places.len() {
             places[number] = place;
@@ -180,44 +181,71 @@ fn are_variables_of_one_type(old: &Top, new: &Top) -> bool
 }
 
 // Whether the entry at a place is a variable, and what is given is one of its type.
-fn is_variable_at<P: Drop>(bindings: &IndexMap<Vec<u8>, Entry<P>>, place: usize, top: &Top) -> bool
-    ensures same { IsTrue result → option_map (λ e. e.1.top) (slice_get bindings.now.entries place) ≡ Some top.now }
+fn is_variable_at<P: Drop>(entries: &[Entry<P>], place: usize, top: &Top) -> bool
+    ensures same { IsTrue result → option_map (λ e. e.top) (slice_get entries.now place) ≡ Some top.now }
     ensures kind { IsTrue result → (tag : ℕ) → is_datatype tag top.now ≡ false }
 {
-    match bindings.get_index(place) {
-        Some((_, entry)) => are_variables_of_one_type(&entry.top, top),
+    match entries.get(place) {
+        Some(entry) => are_variables_of_one_type(&entry.top, top),
         None => false,
     }
 }
 
 // Sets the payload of the entry at a place, which stays what it is.
-fn set_payload<P: Drop>(bindings: &mut IndexMap<Vec<u8>, Entry<P>>, place: usize, payload: P)
-    ensures { (top : Tops) → option_map (λ e. e.1.top) (slice_get bindings.old.entries place) ≡ Some top
-        → map (λ e. (e.0.items, e.1.top, e.1.payload)) bindings.new.entries
-        ≡ with_name_at place top payload (map (λ e. (e.0.items, e.1.top, e.1.payload)) bindings.old.entries) }
+fn set_payload<P: Drop>(entries: &mut Vec<Entry<P>>, place: usize, payload: P)
+    ensures len { length entries.new.items ≡ length entries.old.items }
+    ensures set { (names : List (List ℕ)) → (top : Tops)
+        → option_map (λ e. e.top) (slice_get entries.old.items place) ≡ Some top
+        → named names (map (λ e. (e.top, e.payload)) entries.new.items)
+        ≡ with_name_at place top payload (named names (map (λ e. (e.top, e.payload)) entries.old.items)) }
 {
-    if let Some(entry) = bindings.get_index_mut(place) {
+    if let Some(entry) = entries.get_mut(place) {
         entry.payload = payload;
     }
 }
 
 // Replaces the entry at a place. The numbers are those of the entry that is dropped.
-fn set_entry<P: Drop>(
-    bindings: &mut IndexMap<Vec<u8>, Entry<P>>,
-    place: usize,
-    entry: Entry<P>,
-) -> Marks
-    ensures { map (λ e. (e.0.items, e.1.top, e.1.payload)) bindings.new.entries
+fn set_entry<P: Drop>(entries: &mut Vec<Entry<P>>, place: usize, entry: Entry<P>) -> Marks
+    ensures len { length entries.new.items ≡ length entries.old.items }
+    ensures set { (names : List (List ℕ)) → named names (map (λ e. (e.top, e.payload)) entries.new.items)
         ≡ with_name_at place entry.top entry.payload
-        (map (λ e. (e.0.items, e.1.top, e.1.payload)) bindings.old.entries) }
+        (named names (map (λ e. (e.top, e.payload)) entries.old.items)) }
 {
-    match bindings.get_index_mut(place) {
+    match entries.get_mut(place) {
         Some(there) => {
             let marks = there.marks;
             *there = entry;
             marks
         }
         None => entry.marks,
+    }
+}
+
+// Gives a name its entry: in place of the one that it has, or else after all others. The numbers are those of the entry
+// that is dropped.
+fn put_entry<P: Drop>(
+    alloc: Global,
+    names: &mut NameOrder,
+    entries: &mut Vec<Entry<P>>,
+    name: &[u8],
+    entry: Entry<P>,
+) -> Result<Marks, AllocError>
+    requires room { vec_len entries.old < vec_capacity entries.old }
+    requires len { length names.old ≡ length entries.old.items }
+    ensures len { length names.new ≡ length entries.new.items }
+    ensures set { OnOk result (named names.new (map (λ e. (e.top, e.payload)) entries.new.items)
+        ≡ with_name name.now entry.top entry.payload
+        (named names.old (map (λ e. (e.top, e.payload)) entries.old.items))) }
+    ensures names { OnErr result (names.new ≡ names.old) }
+    ensures entries { OnErr result (entries.new.items ≡ entries.old.items) }
+{
+    match names.place_of(name) {
+        Some(place) => Ok(set_entry(entries, place, entry)),
+        None => {
+            names.add(alloc, name)?;
+            entries.push_reserved(entry);
+            Ok(Marks::one(None))
+        }
     }
 }
 
@@ -230,43 +258,32 @@ fn reserve_types(places: &mut Vec<usize>, kept: &mut Kept) -> Result<(), AllocEr
     kept.reserve()
 }
 
-// Makes room for one name more, and gives the name, owned.
-fn reserve_name<P: Drop>(
-    alloc: Global,
-    name: &[u8],
+// Makes room for one entry more, and for its types.
+fn reserve_entry<P: Drop>(
+    entries: &mut Vec<Entry<P>>,
     places: &mut Vec<usize>,
-    bindings: &mut IndexMap<Vec<u8>, Entry<P>>,
     kept: &mut Kept,
-) -> Result<Vec<u8>, AllocError>
+) -> Result<(), AllocError>
     ensures places { places.new.items ≡ places.old.items }
     ensures room { OnOk result (vec_len places.new < vec_capacity places.new) }
-    ensures bindings { bindings.new.entries ≡ bindings.old.entries }
-    ensures name { IfOk result (λ owned. owned.items ≡ name.now) }
+    ensures entries { entries.new.items ≡ entries.old.items }
+    ensures entry { OnOk result (vec_len entries.new < vec_capacity entries.new) }
 {
     reserve_types(places, kept)?;
-    bindings.reserve(1)?;
-    Ok(Vec::from_slice(alloc, name)?)
-}
-
-// The numbers under which the types of an entry are kept.
-fn marks_of<P: Drop>(entry: Option<Entry<P>>) -> Marks {
-    match entry {
-        Some(entry) => entry.marks,
-        None => Marks::one(None),
-    }
+    entries.reserve(1)
 }
 
 impl<P: Drop> Context<P> {
-    ghost use Rattle.std.specs.Prelude.{◌≡◌, [], length, OnErr, slice_get};
-    ghost use Rattle.std.specs.Option.{option_map};
-    ghost use Rattle.nesl_types.specs.Names.{found, with_name, with_name_at, datatype_at};
+    ghost use Rattle.std.specs.Prelude.{[]};
+    ghost use Rattle.nesl_types.specs.Names.{found, datatype_at};
 
     /// A context with no names.
     pub fn new(alloc: Global) -> Self
         ensures { result ≡ [] }
     {
         Context {
-            bindings: IndexMap::new(alloc),
+            names: NameOrder::new(alloc),
+            entries: Vec::new(alloc),
             places: Vec::new(alloc),
             kept: Kept::new(alloc),
         }
@@ -276,7 +293,8 @@ impl<P: Drop> Context<P> {
     pub fn get(&self, name: &[u8]) -> Option<(&Top, &P)>
         ensures { option_map (λ b. (b.0.now, b.1.now)) result ≡ found name.now self.now }
     {
-        let entry = self.bindings.get(name)?;
+        let place = self.names.place_of(name)?;
+        let entry = self.entries.get(place)?;
         Some((&entry.top, &entry.payload))
     }
 
@@ -284,8 +302,16 @@ impl<P: Drop> Context<P> {
     pub fn at(&self, place: usize) -> Option<(&[u8], &Top, &P)>
         ensures { option_map (λ b. (b.0.now, b.1.now, b.2.now)) result ≡ slice_get self.now place }
     {
-        let (name, entry) = self.bindings.get_index(place)?;
-        Some((name.as_slice(), &entry.top, &entry.payload))
+        let name = self.names.at(place)?;
+        let entry = self.entries.get(place)?;
+        Some((name, &entry.top, &entry.payload))
+    }
+
+    /// The names, each with its place.
+    pub fn names(&self) -> &NameOrder
+        ensures { result.now ≡ map (λ b. b.0) self.now }
+    {
+        &self.names
     }
 
     /// The name of the datatype with the tag, what it is, and its payload.
@@ -296,7 +322,7 @@ impl<P: Drop> Context<P> {
             Some(place) => *place,
             None => 0,
         };
-        let place = datatype_place(&self.bindings, tag, from);
+        let place = datatype_place(self.entries.as_slice(), tag, from);
         self.at(place)
     }
 
@@ -312,13 +338,7 @@ impl<P: Drop> Context<P> {
         ensures ok { OnOk result (self.new ≡ with_name name.now top payload self.old) }
         ensures err { OnErr result (self.new ≡ self.old) }
     {
-        let name = reserve_name(
-            alloc,
-            name,
-            &mut self.places,
-            &mut self.bindings,
-            &mut self.kept,
-        )?;
+        reserve_entry(&mut self.entries, &mut self.places, &mut self.kept)?;
         let tag = tag_of(&top);
         let (top, marks) = top.shared(alloc, &mut self.kept)?;
         let entry = Entry {
@@ -326,9 +346,13 @@ impl<P: Drop> Context<P> {
             payload,
             marks,
         };
-        let before = self.bindings.insert(name, entry)?;
-        self.kept.release(marks_of(before));
-        note_place(&mut self.places, &self.bindings, tag);
+        let put = put_entry(alloc, &mut self.names, &mut self.entries, name, entry);
+        let Ok(before) = put else {
+            self.kept.release(marks);
+            return Err(AllocError);
+        };
+        self.kept.release(before);
+        note_place(&mut self.places, self.entries.as_slice(), tag);
         Ok(())
     }
 
@@ -343,8 +367,8 @@ impl<P: Drop> Context<P> {
         ensures ok { OnOk result (self.new ≡ with_name_at place top payload self.old) }
         ensures err { OnErr result (self.new ≡ self.old) }
     {
-        if is_variable_at(&self.bindings, place, &top) {
-            set_payload(&mut self.bindings, place, payload);
+        if is_variable_at(self.entries.as_slice(), place, &top) {
+            set_payload(&mut self.entries, place, payload);
             return Ok(());
         }
         reserve_types(&mut self.places, &mut self.kept)?;
@@ -355,9 +379,9 @@ impl<P: Drop> Context<P> {
             payload,
             marks,
         };
-        let before = set_entry(&mut self.bindings, place, entry);
+        let before = set_entry(&mut self.entries, place, entry);
         self.kept.release(before);
-        note_place(&mut self.places, &self.bindings, tag);
+        note_place(&mut self.places, self.entries.as_slice(), tag);
         Ok(())
     }
 
@@ -365,7 +389,7 @@ impl<P: Drop> Context<P> {
     pub fn len(&self) -> usize
         ensures { result ≡ length self.now }
     {
-        self.bindings.len()
+        self.names.len()
     }
 
     /// How many different types the names have, as far as they share their parts. No reply depends on it.

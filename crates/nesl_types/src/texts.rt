@@ -214,17 +214,16 @@ fn write_at<P: Drop>(
     Ok(())
 }
 
-/// Writes a type; a pair has brackets where they are wanted.
-fn write_type<P: Drop>(
+/// Writes the text of a type after what is there. The context has the names of the datatypes.
+pub fn write_type<P: Drop>(
     out: &mut Vec<u8>,
-    context: &Context<P>,
     ty: &Ty,
-    brackets: bool,
+    context: &Context<P>,
 ) -> Result<(), AllocError>
-    ensures { OnOk result (out.new.items ≡ out.old.items ++ text_of_type (name_at context.now) brackets ty.now) }
+    ensures { OnOk result (out.new.items ≡ out.old.items ++ text_of_type (name_at context.now) true ty.now) }
 {
     let parts = ty.parts();
-    write_at(out, &parts, context, parts.len() - 1, brackets, MOST_DEPTH)
+    write_at(out, &parts, context, parts.len() - 1, true, MOST_DEPTH)
 }
 
 /// The text of a type. The context has the names of the datatypes.
@@ -236,7 +235,7 @@ pub fn type_text<P: Drop>(
     ensures { IfOk result (λ text. text.items ≡ text_of_type (name_at context.now) true ty.now) }
 {
     let mut out = Vec::with_capacity(alloc, TEXT_ROOM)?;
-    write_type(&mut out, context, ty, true)?;
+    write_type(&mut out, ty, context)?;
     Ok(out)
 }
 
@@ -286,16 +285,17 @@ fn write_members(out: &mut Vec<u8>, classes: &[Class]) -> Result<(), AllocError>
     write_if(out, started, b')')
 }
 
-fn write_scheme<P: Drop>(
+/// Writes the text of a scheme after what is there. The context has the names of the datatypes.
+pub fn write_scheme<P: Drop>(
     out: &mut Vec<u8>,
     scheme: &Scheme,
     context: &Context<P>,
 ) -> Result<(), AllocError>
     ensures { OnOk result (out.new.items ≡ out.old.items ++ text_of_scheme (name_at context.now) scheme.now) }
 {
-    write_type(out, context, &scheme.argument, true)?;
+    write_type(out, &scheme.argument, context)?;
     out.extend_from_slice(b" -> ")?;
-    write_type(out, context, &scheme.result, true)?;
+    write_type(out, &scheme.result, context)?;
     write_members(out, &scheme.classes)
 }
 

@@ -1,15 +1,12 @@
-use Rattle.std.proofs.Common.{◌∙◌, sym, ap}
-use Rattle.std.proofs.lemmas.List.{length-map}
+use Rattle.std.proofs.Common.{◌∙◌, ap}
 use Rattle.std.specs.Prelude.{option_map}
-use Rattle.nesl_eval_code.specs.Resolving.{keys_of}
 use Rattle.nesl_eval_code.proofs.Placed.{placed_still, placed_own}
 use Rattle.nesl_eval_code.proofs.places.place_of.Goals as goal
 
 pub returns-in-Some : goal.returns-in-Some
-returns-in-Some c = placed_still (option_map (λ x. x.now) c.args.places.now.own) (keys_of c.args.places.now.bodies.now.entries) c.args.name.now c.in-Some.place c.in-Some.ensures
+returns-in-Some c = placed_still (option_map (λ x. x.now) c.args.places.now.own) c.args.places.now.names.now c.args.name.now c.in-Some.place c.in-Some.ensures
 
 pub returns-in-Some-own : goal.returns-in-Some-own
 returns-in-Some-own c =
-    let es = c.args.places.now.bodies.now.entries in
-    placed_own (option_map (λ x. x.now) c.args.places.now.own) c.in-Some-own.own.now (keys_of es) c.args.name.now c.len.result c.last_place.result
-    (ap (option_map (λ x. x.now)) c.in-Some-own.is) c.in-None.ensures (c.len.ensures.len ∙ sym (length-map es (λ e. e.0.items))) c.last_place.ensures
+    placed_own (option_map (λ x. x.now) c.args.places.now.own) c.in-Some-own.own.now c.args.places.now.names.now c.args.name.now c.len.result c.last_place.result
+    (ap (option_map (λ x. x.now)) c.in-Some-own.is) c.in-None.ensures c.len.ensures c.last_place.ensures

@@ -9,17 +9,15 @@ returns-then-is_datatype_at g c = found_place _ c.args.tag c.loop-place.place c.
 
 pub loop-place-init : goal.loop-place-init
 loop-place-init g c =
-    let ns = map (λ e. (e.0.items, e.1.top, e.1.payload)) c.args.bindings.now.entries in
-    let within : c.args.from ≤ datatype_place ns c.args.tag = c.requires in
-    λ k l. none_before ns c.args.tag k (omega (arith, within, l))
+    let ts = map (λ e. e.top) c.args.entries.now in
+    let within : c.args.from ≤ datatype_place ts c.args.tag = c.requires in
+    λ k l. none_before ts c.args.tag k (omega (arith, within, l))
 
 pub returns : goal.returns
 returns g c =
-    let es = c.args.bindings.now.entries in
-    let ns = map (λ e. (e.0.items, e.1.top, e.1.payload)) es in
-    let l : length ns ≡ length es = length-map es (λ e. (e.0.items, e.1.top, e.1.payload)) in
-    let n : c.len.result ≡ length es = c.len.ensures.len in
-    let m : c.len-place-end.result ≡ length es = c.len-place-end.ensures.len in
-    let within : c.args.from ≤ datatype_place ns c.args.tag = c.requires in
-    let from : c.args.from ≤ c.len-place-end.result = omega (arith, within, place_within ns c.args.tag, l, m) in
-    n ∙ sym l ∙ no_place ns c.args.tag c.loop-place.place c.loop-place.invariant (omega (arith, from, l, m, c.loop-place-test.false))
+    let es = c.args.entries.now in
+    let ts = map (λ e. e.top) es in
+    let l : length ts ≡ length es = length-map es (λ e. e.top) in
+    let within : c.args.from ≤ datatype_place ts c.args.tag = c.requires in
+    let from : c.args.from ≤ length es = omega (arith, within, place_within ts c.args.tag, l) in
+    sym l ∙ no_place ts c.args.tag c.loop-place.place c.loop-place.invariant (omega (arith, from, l, c.loop-place-test.false))

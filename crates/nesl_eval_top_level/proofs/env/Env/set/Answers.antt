@@ -1,8 +1,8 @@
 use Rattle.std.proofs.Common.{◌∙◌, ap, sym, List, Result, Ok, Err, OnOk}
 use Rattle.nesl_types.specs.Names.{with_name, with_name_at}
-use Rattle.nesl_eval_code.specs.Means.{place_of}
+use Rattle.nesl_types.specs.Order.{place_of}
 use Rattle.nesl_eval_top_level.specs.Stored.{Entry, names_in}
-use Rattle.nesl_eval_top_level.proofs.Storing.{same_names, set_at}
+use Rattle.nesl_eval_top_level.proofs.Storing.{set_at}
 use Rattle.nesl_eval_top_level.proofs.env.Env.set.Goals as goal
 
 -- what is there where a call ends well
@@ -13,9 +13,8 @@ if_done (Err e) h k = h
 pub returns-in-Some-clause-ok : goal.returns-in-Some-clause-ok
 returns-in-Some-clause-ok c =
     let bs = c.self.inside.context in
-    let cs = c.self.inside.prepared.entries in
     let name = c.args.name.now in
-    let place = sym c.in-Some.ensures.same ∙ c.place_in-place.ensures ∙ ap (λ ns. place_of ns name) (same_names (names_in bs) bs cs c.self.invariant.0) in
+    let place = sym c.in-Some.ensures.same ∙ c.place_of-place.ensures ∙ ap (λ ns. place_of ns name) c.names.ensures in
     if_done c.set_at.result c.set_at.ensures.ok (λ e. e
     ∙ ap (with_name_at c.in-Some.there c.args.top c.args.payload) (sym c.self.view_is)
     ∙ set_at name c.args.top c.args.payload c.in-Some.there bs place
@@ -23,6 +22,5 @@ returns-in-Some-clause-ok c =
 
 pub set_prepared-requires : goal.set_prepared-requires
 set_prepared-requires c =
-    let bs = c.self.inside.context in
-    c.place_in-place.ensures ∙ ap (λ ns. place_of ns c.args.name.now) (same_names (names_in bs) bs c.self.inside.prepared.entries c.self.invariant.0)
+    c.place_of-place.ensures ∙ ap (λ ns. place_of ns c.args.name.now) c.names.ensures
     ∙ ap (λ (y : List Entry). place_of (names_in y) c.args.name.now) c.self.view_is

@@ -1,53 +1,20 @@
-use Rattle.std.proofs.Common.{rules, ◌≡◌, ◌≤◌, slice_index, sym, ap, ◌∙◌, map, subst}
-use Rattle.nesl_types.specs.Names.{with_name, datatype_place}
-use Rattle.nesl_types.proofs.Bound.{shown, with_name-shown}
-use Rattle.nesl_types.proofs.Places.{others_reached}
+use Rattle.std.proofs.Common.{◌≡◌, ◌≤◌, length, map, slice_index, sym, ap, ◌∙◌, subst}
+use Rattle.nesl_types.specs.Names.{datatype_place, is_datatype, AreReached}
+use Rattle.nesl_types.proofs.Places.{reached_after}
 use Rattle.nesl_types.proofs.bindings.Context.set.Goals as goal
 
 pub note_place-requires-clause-others : goal.note_place-requires-clause-others
 note_place-requires-clause-others g c =
-    let row = shown (λ k. k.items) (λ e. e.top) (λ e. e.payload) in
-    let old = map row c.self.inside.bindings.entries in
-    let e =
-    ap (map row) c.in_ok-before.ensures.entries
-    ∙ with_name-shown (λ k. k.items) (λ e. e.top) (λ e. e.payload) c.in_ok-name.name (record { top = c.in_ok-top.top; payload = c.args.payload; marks = c.in_ok-top.marks }) c.reserve_name.new.bindings.entries
-    ∙ ap (λ es. with_name c.in_ok-name.name.items c.in_ok-top.top c.args.payload (map row es)) c.reserve_name.ensures.bindings
-    ∙ ap (λ n. with_name n c.in_ok-top.top c.args.payload old) c.in_ok-name.ensures.name
-    ∙ ap (λ t. with_name c.args.name.now t c.args.payload old) c.in_ok-top.ensures in
+    let ns = c.self.inside.names in
+    let es = c.reserve_entry.new.entries.items in
+    let new = c.put_entry-put.new.entries.items in
+    let places = c.reserve_entry.new.places.items in
+    let same : es ≡ c.self.inside.entries.items = c.reserve_entry.ensures.entries in
+    let l : length ns ≡ length es = c.self.invariant.0 ∙ ap length (sym same) in
+    let reached : AreReached (map (λ e. e.top) es) places =
+    subst (λ ps. AreReached (map (λ e. e.top) es) ps) (sym c.reserve_entry.ensures.places)
+    (subst (λ ds. AreReached (map (λ e. e.top) ds) c.self.inside.places.items) (sym same) c.self.invariant.1) in
     λ other h.
-    subst (λ ns. slice_index c.reserve_name.new.places.items other ≤ datatype_place ns other) (sym e)
-    (subst (λ ps. slice_index ps other ≤ datatype_place (with_name c.args.name.now c.args.top c.args.payload old) other) (sym c.reserve_name.ensures.places)
-    (others_reached old c.self.inside.places.items c.args.name.now c.args.top c.args.payload c.self.invariant other (c.tag_of-tag.ensures other h)))
-
-pub returns-clause-ok : goal.returns-clause-ok
-returns-clause-ok g c =
-    let row = shown (λ k. k.items) (λ e. e.top) (λ e. e.payload) in
-    let old = map row c.self.inside.bindings.entries in
-    ap (map row) c.in_ok-before.ensures.entries
-    ∙ with_name-shown (λ k. k.items) (λ e. e.top) (λ e. e.payload) c.in_ok-name.name (record { top = c.in_ok-top.top; payload = c.args.payload; marks = c.in_ok-top.marks }) c.reserve_name.new.bindings.entries
-    ∙ ap (λ es. with_name c.in_ok-name.name.items c.in_ok-top.top c.args.payload (map row es)) c.reserve_name.ensures.bindings
-    ∙ ap (λ n. with_name n c.in_ok-top.top c.args.payload old) c.in_ok-name.ensures.name
-    ∙ ap (λ t. with_name c.args.name.now t c.args.payload old) c.in_ok-top.ensures
-    ∙ ap (with_name c.args.name.now c.args.top c.args.payload) c.self.view_is
-
-pub invariant_of-self : goal.invariant_of-self
-invariant_of-self g c =
-    let row = shown (λ k. k.items) (λ e. e.top) (λ e. e.payload) in
-    λ tag.
-    subst (λ ps. slice_index ps tag ≤ datatype_place (map row c.reserve_name.new.bindings.entries) tag) (sym c.reserve_name.ensures.places)
-    (subst (λ es. slice_index c.self.inside.places.items tag ≤ datatype_place (map row es) tag) (sym c.reserve_name.ensures.bindings) (c.self.invariant tag))
-
-pub invariant_of-self-in_err-top : goal.invariant_of-self-in_err-top
-invariant_of-self-in_err-top g c =
-    let row = shown (λ k. k.items) (λ e. e.top) (λ e. e.payload) in
-    λ tag.
-    subst (λ ps. slice_index ps tag ≤ datatype_place (map row c.reserve_name.new.bindings.entries) tag) (sym c.reserve_name.ensures.places)
-    (subst (λ es. slice_index c.self.inside.places.items tag ≤ datatype_place (map row es) tag) (sym c.reserve_name.ensures.bindings) (c.self.invariant tag))
-
-pub invariant_of-self-in_err-before : goal.invariant_of-self-in_err-before
-invariant_of-self-in_err-before g c =
-    let same : c.insert.new.self.entries ≡ c.reserve_name.new.bindings.entries = search rules in
-    let row = shown (λ k. k.items) (λ e. e.top) (λ e. e.payload) in
-    λ tag.
-    subst (λ ps. slice_index ps tag ≤ datatype_place (map row c.insert.new.self.entries) tag) (sym c.reserve_name.ensures.places)
-    (subst (λ es. slice_index c.self.inside.places.items tag ≤ datatype_place (map row es) tag) (sym (same ∙ c.reserve_name.ensures.bindings)) (c.self.invariant tag))
+    subst (λ ds. slice_index places other ≤ datatype_place (map (λ e. e.top) ds) other) (sym c.as_slice.ensures.value)
+    (reached_after (λ e. e.top) (λ e. e.payload) ns c.put_entry-put.new.names es new places c.in_ok-top.top c.args.payload l c.in-Ok.ensures.len reached
+    c.args.name.now c.in-Ok.ensures.set other (ap (is_datatype other) c.in_ok-top.ensures ∙ c.tag_of-tag.ensures other h))
