@@ -12,3 +12,4 @@ pub mod Shapes
 pub mod Parts
 pub mod Closed
 pub mod Sizes
+pub mod Repeated

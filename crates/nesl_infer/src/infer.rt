@@ -13,10 +13,11 @@ ghost use Rattle.nesl_infer_names.specs.Names.{datatype_in};
 ghost use Rattle.nesl_infer_rules.specs.Principal.{HasNoType, HasNoFunctionType, IsPrincipal, IsPrincipalScheme, Typed};
 ghost use Rattle.nesl_infer_rules.specs.Principal.{TypedFunction};
 
-use crate::constrain::constrain;
 use crate::fault::InferFault;
 use crate::integer::is_integer;
+use crate::long::is_long;
 use crate::scheme::scheme_of;
+use crate::whole::constrain_whole;
 use nesl_infer_names::{unknown_in_exp, unknown_in_function, unknown_in_type};
 use nesl_infer_rules::locals::Locals;
 use nesl_infer_rules::outer::Outer;
@@ -53,7 +54,7 @@ fn principal_type<P: Drop>(
     let root = state.add_any()?;
     let mut locals = Locals::new(alloc);
     let outer = Outer { context, own: None };
-    constrain(&mut state, &outer, &mut locals, exp, root)?;
+    constrain_whole(&mut state, &outer, &mut locals, exp, root)?;
     let solution = state.solve()?;
     let ty = solution.variable(alloc, root)?;
     Ok(PrincipalType {
@@ -92,7 +93,7 @@ fn constrain_function<P: Drop>(
     let mut locals = Locals::new(state.alloc);
     constrain_pattern(state, &outer, &mut locals, pattern, takes)?;
     constrain_signature(state, context, signature, takes, gives)?;
-    constrain(state, &outer, &mut locals, body, gives)?;
+    constrain_whole(state, &outer, &mut locals, body, gives)?;
     Ok(Ends { takes, gives })
 }
 
@@ -123,16 +124,8 @@ fn principal_scheme<P: Drop>(
     Ok(scheme)
 }
 
-/// From how many bytes on an expression is searched for unknown names before its equations are made. A long line can
-/// have enough of them that solving takes seconds, which is of no use where a name is unknown.
-const LONG: usize = 512;
-
-/// Whether an expression is long.
-fn is_long(exp: &Exp) -> bool {
-    exp.span.end.saturating_sub(exp.span.start) >= LONG
-}
-
-/// Refuses a long expression in which a name is unknown.
+/// Refuses a long expression in which a name is unknown. It can have enough names that solving takes seconds, which is
+/// of no use there.
 fn check_names<P: Drop>(alloc: Global, context: &Context<P>, exp: &Exp) -> Result<(), InferFault>
     ensures { IfErr result (λ f. IsTypeOf context.now (tree_of exp.now) (Err f)) }
 {

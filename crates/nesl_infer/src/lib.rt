@@ -7,7 +7,10 @@ mod infer;
 mod integer;
 pub mod laws;
 mod leaf;
+mod long;
 mod scheme;
+mod uses;
+mod whole;
 
 pub use fault::InferFault;
 pub use infer::{infer_datatype, infer_exp, infer_function};

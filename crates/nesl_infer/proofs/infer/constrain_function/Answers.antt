@@ -21,8 +21,8 @@ returns g c =
     let t = c.in_ok-takes.takes in
     let u = c.in_ok-gives.gives in
     let ms = c.constrain_pattern.new.locals in
-    subst (λ (y : List ℕ). Gives {X = Term × Term} c.args.state.now c.constrain.new.state (λ s. (s t, s u)) (λ s of k. TypedFunction context y p s1 e of k.0 k.1)) c.in_ok-name.ensures.items
+    subst (λ (y : List ℕ). Gives {X = Term × Term} c.args.state.now c.constrain_whole.new.state (λ s. (s t, s u)) (λ s of k. TypedFunction context y p s1 e of k.0 k.1)) c.in_ok-name.ensures.items
     (arm_function context x p s1 e t u ms c.in_ok-takes.ensures.gives c.in_ok-gives.ensures.gives
     (subst (λ (ks : List Local). AddsNames c.add_any-2.new.self c.constrain_pattern.new.state ks ms (λ s of ns. PatternAdds (bounded (meanings_in context (Some (x, s t, s u))) of) p (s t) ns)) c.new-locals.ensures c.in_ok-constrain_pattern.ensures)
     c.in_ok-constrain_signature.ensures
-    c.in_ok-constrain.ensures.adds)
+    c.in_ok-constrain_whole.ensures.adds)

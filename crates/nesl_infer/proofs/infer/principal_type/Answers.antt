@@ -19,8 +19,8 @@ returns-in_err-solution-clause-ill_typed g c = λ f of t h.
     let root = c.in_ok-root.root in
     let first : State = c.new-state.result in
     let empty : IsEmpty first = c.new-state.ensures in
-    let adds : Adds c.add_any.new.self c.constrain.new.state (λ s of. HasType (bounded names of) [] e (s root)) =
-    subst (λ (ls : List Local). Adds c.add_any.new.self c.constrain.new.state (λ s of. HasType (bounded names of) (scope_at s ls) e (s root))) c.new-locals.ensures c.in_ok-constrain.ensures.adds in
+    let adds : Adds c.add_any.new.self c.constrain_whole.new.state (λ s of. HasType (bounded names of) [] e (s root)) =
+    subst (λ (ls : List Local). Adds c.add_any.new.self c.constrain_whole.new.state (λ s of. HasType (bounded names of) (scope_at s ls) e (s root))) c.new-locals.ensures c.in_ok-constrain_whole.ensures.adds in
     let z = solution_of_typing {A = first} names e root empty c.in_ok-root.ensures.below c.in_ok-root.ensures.gives adds of t h in
     c.in_err-solution.ensures.none (search rules) z.0 of z.2 z.1
 
@@ -31,8 +31,8 @@ returns-clause-principal g c =
     let root = c.in_ok-root.root in
     let first : State = c.new-state.result in
     let empty : IsEmpty first = c.new-state.ensures in
-    let adds : Adds c.add_any.new.self c.constrain.new.state (λ s of. HasType (bounded names of) [] e (s root)) =
-    subst (λ (ls : List Local). Adds c.add_any.new.self c.constrain.new.state (λ s of. HasType (bounded names of) (scope_at s ls) e (s root))) c.new-locals.ensures c.in_ok-constrain.ensures.adds in
+    let adds : Adds c.add_any.new.self c.constrain_whole.new.state (λ s of. HasType (bounded names of) [] e (s root)) =
+    subst (λ (ls : List Local). Adds c.add_any.new.self c.constrain_whole.new.state (λ s of. HasType (bounded names of) (scope_at s ls) e (s root))) c.new-locals.ensures c.in_ok-constrain_whole.ensures.adds in
     let a = c.in_ok-solution.solution in
     let q = c.in_ok-solution.ensures in
     record {
