@@ -7,3 +7,4 @@ pub mod Left
 pub mod Reaching
 pub mod Columned
 pub mod Crosses
+pub mod Unshared

@@ -13,6 +13,7 @@ use crate::asker::Moment;
 use crate::crew::Crew;
 use crate::grant::{Grant, ask_for};
 use crate::intervals::find_in_halves;
+use crate::lends::Lends;
 use crate::reached::{Reached, may_be_cut, reach, waits_for_turn};
 use crate::rounds::{advance_to_body, begin_turns, end_turns, interval_of, turns_left};
 use nesl_eval_helpers::{Gate, Helpers};
@@ -28,12 +29,7 @@ use std::thread::Threads;
 /// Runs a machine to its last value. Its rounds are cut in halves where helpers are granted; at most `cuts` cuts are
 /// nested. No run makes 2^64 - 1 moves. Only this loop calls `go_on`, so that it is inlined here.
 #[cycle(halves)]
-pub(crate) fn make_moves<
-    R: Threads + Sync,
-    H: Helpers + Sync,
-    G: Gate + Sync,
-    T: Tops<Global> + Sync,
->(
+pub(crate) fn make_moves<R: Threads + Sync, H: Helpers + Sync, G: Gate + Sync, T: Lends + Sync>(
     machine: &mut Machine<'_, Global>,
     cuts: u32,
     crew: &Crew<'_, R, H, G, T>,
@@ -59,7 +55,7 @@ pub(crate) fn make_moves<
 // the stack first.
 #[cycle(halves)]
 #[inline(never)]
-fn move_in_halves<'a, R: Threads + Sync, H: Helpers + Sync, G: Gate + Sync, T: Tops<Global> + Sync>(
+fn move_in_halves<'a, R: Threads + Sync, H: Helpers + Sync, G: Gate + Sync, T: Lends + Sync>(
     machine: &mut Machine<'a, Global>,
     hand: Hand<'a, Global>,
     cuts: u32,
@@ -80,13 +76,7 @@ fn move_in_halves<'a, R: Threads + Sync, H: Helpers + Sync, G: Gate + Sync, T: T
 // Goes on with a round at its start, after a turn, or after a filter's last turn. If a helper is granted, all remaining
 // turns are evaluated in halves.
 #[cycle(halves)]
-fn go_round_in_halves<
-    'a,
-    R: Threads + Sync,
-    H: Helpers + Sync,
-    G: Gate + Sync,
-    T: Tops<Global> + Sync,
->(
+fn go_round_in_halves<'a, R: Threads + Sync, H: Helpers + Sync, G: Gate + Sync, T: Lends + Sync>(
     machine: &mut Machine<'a, Global>,
     mut round: Box<Round<'a, Global>>,
     next: &'a Ops,
@@ -105,13 +95,7 @@ fn go_round_in_halves<
 
 // Evaluates all remaining turns of a round, and those of the body after a filter, if helpers are granted.
 #[cycle(halves)]
-fn rounds_in_halves<
-    'a,
-    R: Threads + Sync,
-    H: Helpers + Sync,
-    G: Gate + Sync,
-    T: Tops<Global> + Sync,
->(
+fn rounds_in_halves<'a, R: Threads + Sync, H: Helpers + Sync, G: Gate + Sync, T: Lends + Sync>(
     machine: &mut Machine<'a, Global>,
     round: &mut Box<Round<'a, Global>>,
     cuts: u32,
@@ -164,13 +148,7 @@ fn ask_at<R, H: Helpers, G, T: Tops<Global>>(
 
 // Evaluates all remaining turns of a round. They run in halves if a helper is granted, else in columns if possible.
 #[cycle(halves)]
-fn turns_in_halves<
-    'a,
-    R: Threads + Sync,
-    H: Helpers + Sync,
-    G: Gate + Sync,
-    T: Tops<Global> + Sync,
->(
+fn turns_in_halves<'a, R: Threads + Sync, H: Helpers + Sync, G: Gate + Sync, T: Lends + Sync>(
     machine: &mut Machine<'a, Global>,
     round: &mut Box<Round<'a, Global>>,
     cuts: u32,

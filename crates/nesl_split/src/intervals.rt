@@ -10,14 +10,15 @@ ghost use Rattle.nesl_split.specs.Halves.{Within, HalfFinds};
 
 use crate::asker::Moment;
 use crate::columns::{find_by_columns, room_for};
-use crate::crew::fork;
+use crate::crew::{Crew, fork};
 use crate::found::{Found, join_found};
 use crate::grant::{Grant, ask_for};
 use crate::halves::make_moves;
-use crate::turns::{Interval, Turns, end_turn, idle_machine, set_at_turn};
+use crate::lends::Lends;
+use crate::own::values_for;
+use crate::turns::{Interval, Room, Turns, end_turn, idle_machine, set_at_turn};
 use nesl_eval_helpers::{Gate, Half, Helpers, Place, begin_meter, cost_since};
 use nesl_eval_machine::state::Machine;
-use nesl_eval_nodes::held::Tops;
 use nesl_eval_nodes::meter::{Meter, Stop};
 use std::alloc::Global;
 use std::thread::Threads;
@@ -25,7 +26,7 @@ use std::thread::Threads;
 // Evaluates turns one after another.
 #[cycle(halves)]
 #[inline(never)]
-fn find_one_by_one<R: Threads + Sync, H: Helpers + Sync, G: Gate + Sync, T: Tops<Global> + Sync>(
+fn find_one_by_one<R: Threads + Sync, H: Helpers + Sync, G: Gate + Sync, T: Lends + Sync>(
     interval: &Interval<'_, R, H, G, T>,
     turns: Turns,
     cuts: u32,
@@ -54,7 +55,7 @@ fn find_one_by_one<R: Threads + Sync, H: Helpers + Sync, G: Gate + Sync, T: Tops
 
 // Evaluates one turn on a machine that the turns of the interval share.
 #[cycle(halves)]
-fn take_turn<'a, R: Threads + Sync, H: Helpers + Sync, G: Gate + Sync, T: Tops<Global> + Sync>(
+fn take_turn<'a, R: Threads + Sync, H: Helpers + Sync, G: Gate + Sync, T: Lends + Sync>(
     interval: &Interval<'a, R, H, G, T>,
     machine: &mut Machine<'a, Global>,
     place: usize,
@@ -76,7 +77,7 @@ fn take_turn<'a, R: Threads + Sync, H: Helpers + Sync, G: Gate + Sync, T: Tops<G
 
 // Evaluates turns on this thread, in columns if possible.
 #[cycle(halves)]
-fn find_in_order<R: Threads + Sync, H: Helpers + Sync, G: Gate + Sync, T: Tops<Global> + Sync>(
+fn find_in_order<R: Threads + Sync, H: Helpers + Sync, G: Gate + Sync, T: Lends + Sync>(
     interval: &Interval<'_, R, H, G, T>,
     turns: Turns,
     cuts: u32,
@@ -96,7 +97,7 @@ fn find_in_order<R: Threads + Sync, H: Helpers + Sync, G: Gate + Sync, T: Tops<G
 // Evaluates turns, in halves if a helper is granted.
 #[cycle(halves)]
 #[inline(never)]
-fn find<R: Threads + Sync, H: Helpers + Sync, G: Gate + Sync, T: Tops<Global> + Sync>(
+fn find<R: Threads + Sync, H: Helpers + Sync, G: Gate + Sync, T: Lends + Sync>(
     interval: &Interval<'_, R, H, G, T>,
     turns: Turns,
     cuts: u32,
@@ -120,12 +121,7 @@ fn find<R: Threads + Sync, H: Helpers + Sync, G: Gate + Sync, T: Tops<Global> + 
 
 /// Evaluates turns in two halves, with a granted helper.
 #[cycle(halves)]
-pub(crate) fn find_in_halves<
-    R: Threads + Sync,
-    H: Helpers + Sync,
-    G: Gate + Sync,
-    T: Tops<Global> + Sync,
->(
+pub(crate) fn find_in_halves<R: Threads + Sync, H: Helpers + Sync, G: Gate + Sync, T: Lends + Sync>(
     interval: &Interval<'_, R, H, G, T>,
     turns: Turns,
     grant: Grant<H::Permit>,
@@ -158,9 +154,41 @@ pub(crate) fn find_in_halves<
     join_found(interval.wanted, first, second, meter)
 }
 
+// Evaluates turns of a half, with values that other threads don't share.
+#[cycle(halves)]
+fn find_with_own<R: Threads + Sync, H: Helpers + Sync, G: Gate + Sync, T: Lends + Sync>(
+    interval: &Interval<'_, R, H, G, T>,
+    turns: Turns,
+    cuts: u32,
+    meter: &mut Meter,
+) -> Result<Found, Stop>
+    requires { AreIn turns interval.now }
+    ensures meets { HasBodies (T.table interval.now.crew.now.tops.now) interval.now.room.now.bodies.now
+        → Meets (Are interval.now.wanted) meter.old result meter.new (found_in T.table interval.now turns) }
+    ensures spent { meter.new.fuel + meter.new.depth ≤ meter.old.fuel + meter.old.depth }
+{
+    let Some((names, tops)) = values_for(interval, turns) else {
+        return find(interval, turns, cuts, meter);
+    };
+    let room = Room {
+        names: &names,
+        ..*interval.room
+    };
+    let crew = Crew {
+        tops: &tops,
+        ..*interval.crew
+    };
+    let own = Interval {
+        room: &room,
+        crew: &crew,
+        ..*interval
+    };
+    find(&own, turns, cuts, meter)
+}
+
 // Evaluates a half, which begins with the whole fuel.
 #[cycle(halves)]
-fn find_half<R: Threads + Sync, H: Helpers + Sync, G: Gate + Sync, T: Tops<Global> + Sync>(
+fn find_half<R: Threads + Sync, H: Helpers + Sync, G: Gate + Sync, T: Lends + Sync>(
     interval: &Interval<'_, R, H, G, T>,
     turns: Turns,
     cuts: u32,
@@ -173,7 +201,7 @@ fn find_half<R: Threads + Sync, H: Helpers + Sync, G: Gate + Sync, T: Tops<Globa
     interval.crew.gate.enter(Place::Half(turns.from, turns.to));
     let begun = begin_meter(fuel);
     let mut meter = begun;
-    let found = find(interval, turns, cuts, &mut meter);
+    let found = find_with_own(interval, turns, cuts, &mut meter);
     let cost = cost_since(begun, meter);
     interval.crew.helpers.end_half();
     Half { found, cost }

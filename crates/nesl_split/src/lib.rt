@@ -8,10 +8,14 @@ mod found;
 mod grant;
 mod halves;
 mod intervals;
+mod lends;
 mod one;
+mod own;
 mod reached;
+mod referred;
 mod rounds;
 mod run;
+mod short;
 mod turns;
 
 pub use crew::{Crew, fork};

@@ -9,6 +9,7 @@ ghost use Rattle.nesl_eval_machine.specs.State.{HasBodies};
 
 use crate::crew::Crew;
 use crate::halves::make_moves;
+use crate::lends::Lent;
 use crate::turns::settle;
 use nesl_eval_helpers::{Gate, Helpers};
 use nesl_eval_machine::state::Machine;
@@ -51,7 +52,18 @@ pub fn evaluate_in_halves<
         meter: Meter::new(fuel),
         alloc,
     };
-    let found = make_moves(&mut machine, cuts, crew);
+    let tops = Lent {
+        tops: crew.tops,
+        copies: Vec::new(alloc),
+    };
+    let crew = Crew {
+        rt: crew.rt,
+        helpers: crew.helpers,
+        gate: crew.gate,
+        tops: &tops,
+        alloc,
+    };
+    let found = make_moves(&mut machine, cuts, &crew);
     let mut meter = Meter::new(fuel);
     let settled = settle(&machine, found, &mut meter);
     (settled, meter)

@@ -1,6 +1,7 @@
-use Rattle.std.proofs.Common.{◌≡◌, ℕ, ◌-◌, ◌/◌, Global, subst, arith, refl, Ok, Err, [], ◌+◌, ap, ◌∙◌, sym, inl, inr}
+use Rattle.std.proofs.Common.{◌≡◌, ℕ, ◌-◌, ◌/◌, Global, subst, arith, refl, Ok, Err, [], ◌+◌, ap, ◌∙◌, sym, inl, inr, map}
 use Rattle.std.specs.Prelude.{slice_range}
 use Rattle.std.proofs.lemmas.Result.{err_from_is_err_and}
+use Rattle.nesl_values.specs.View.{tree_of}
 use Rattle.nesl_eval_meaning.specs.Out.{Out, and_then, all_beside, after_cost}
 use Rattle.nesl_eval_meaning.proofs.Joins.{all_halved}
 use Rattle.nesl_eval_nodes.specs.Sides.{places_of}
@@ -8,6 +9,7 @@ use Rattle.nesl_eval_nodes.specs.Measures.{Measure}
 use Rattle.nesl_eval_nodes.specs.Meets.{Meets}
 use Rattle.nesl_eval_nodes.proofs.Runs.{memory_any}
 use Rattle.nesl_eval_nodes.proofs.Sides.{turn_stops, turns_done}
+use Rattle.nesl_eval_code.specs.Run.{Table}
 use Rattle.nesl_eval_ops.specs.View.{block_of}
 use Rattle.nesl_eval_rounds.specs.declared.state.Round.{Round}
 use Rattle.nesl_eval_rounds.specs.Rounds.{between, chosen_places, places_left}
@@ -36,6 +38,7 @@ use Rattle.nesl_split.proofs.Reaching.{round_moves}
 use Rattle.nesl_split.proofs.Ranges.{range_first, range_none, range_cut}
 use Rattle.nesl_split.proofs.Halved.{found_halved}
 use Rattle.nesl_split.proofs.Crosses.{interval_sync}
+use Rattle.nesl_split.proofs.Unshared.{found_own}
 use Rattle.nesl_split.proofs.+halves.Goals as goal
 
 pub halves::go_round_in_halves-returns-in_err-rounds_in_halves : goal.halves::go_round_in_halves-returns-in_err-rounds_in_halves
@@ -193,3 +196,12 @@ intervals::find_one_by_one-returns-clause-meets g t c = λ bodies.
     let l = c.loop-turn in
     rw c.set_depth.ensures (turns_done (Are w) q (slice_range is l.turn n) l.meter.fuel c.depth-start.result l.most (listed w l.found) c.args.meter.now l.found (all_beside q (slice_range is c.args.turns.from n))
     (range_none is l.turn n c.loop-turn-test.false) (l.invariant.leads bodies) (l.invariant.kind, refl))
+
+pub intervals::find_with_own-returns-clause-meets : goal.intervals::find_with_own-returns-clause-meets
+intervals::find_with_own-returns-clause-meets g t c = λ bodies.
+    let s = c.args.interval.now in
+    let x = c.find-2 in
+    let own = c.in-Some in
+    subst (λ o. Meets (Are s.wanted) c.args.meter.now x.result x.new.meter o)
+    (found_own g.T.Tops.table s c.args.turns (g.T.Tops.table own.tops) (map tree_of c.deref.result.now) own.ensures.tops (ap (map tree_of) c.deref.ensures.value ∙ own.ensures.names))
+    (x.ensures.meets (subst (λ (q : Table). HasBodies q s.room.now.bodies.now) (sym own.ensures.tops) bodies))

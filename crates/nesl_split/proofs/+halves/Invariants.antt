@@ -37,14 +37,17 @@ decreases-intervals::find_in_order g l = l.cuts * 20 + 8
 abbrev pub decreases-intervals::find : goal.decreases-intervals::find
 decreases-intervals::find g l = l.cuts * 20 + 9
 
+abbrev pub decreases-intervals::find_with_own : goal.decreases-intervals::find_with_own
+decreases-intervals::find_with_own g l = l.cuts * 20 + 10
+
 abbrev pub decreases-intervals::find_half : goal.decreases-intervals::find_half
-decreases-intervals::find_half g l = l.cuts * 20 + 10
+decreases-intervals::find_half g l = l.cuts * 20 + 11
 
 abbrev pub decreases-intervals::find_in_halves-half : goal.decreases-intervals::find_in_halves-half
-decreases-intervals::find_in_halves-half g l = l.cuts * 20 + 11
+decreases-intervals::find_in_halves-half g l = l.cuts * 20 + 12
 
 abbrev pub decreases-intervals::find_in_halves : goal.decreases-intervals::find_in_halves
-decreases-intervals::find_in_halves g l = l.grant.cuts * 20 + 12
+decreases-intervals::find_in_halves g l = l.grant.cuts * 20 + 13
 
 abbrev pub invariant-halves::make_moves-loop : goal.invariant-halves::make_moves-loop
 invariant-halves::make_moves-loop g l =
