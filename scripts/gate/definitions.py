@@ -274,7 +274,7 @@ def calls_in(crate, file, only, types):
     whole = file.read_text()
     text = without_comments(whole, "//")
     raw = whole.splitlines()
-    found, block, call, docs, position = [], None, None, [], 0
+    found, block, call, docs, position, closed = [], None, None, [], 0, 0
     for number, line in enumerate(text.splitlines(keepends=True)):
         if head(line):
             block = head(line)
@@ -298,8 +298,10 @@ def calls_in(crate, file, only, types):
             call.lines.append(raw[number].rstrip())
         clause = re.match(r"\s*((?:requires|ensures)\*?\s*\w*)\s*\{", line)
         if clause and call:
-            call.clauses.append((clause.group(1).strip(), braced(text, position + clause.end() - 1)))
-        if call and line.rstrip().endswith(";"):
+            inner = braced(text, position + clause.end() - 1)
+            call.clauses.append((clause.group(1).strip(), inner))
+            closed = position + clause.end() + len(inner)
+        if call and line.rstrip().endswith(";") and position + len(line) > closed:
             call = None
         model = re.match(r"\s*ghost (?:(Value|view)\s*=|(\w+):)\s*\{", line)
         if model and block and block[0] in types:

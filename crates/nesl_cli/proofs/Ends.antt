@@ -12,18 +12,18 @@ use Rattle.nesl_cli.specs.Program.{limits, Prompted, PromptFails, ended, unopene
 use Rattle.nesl_cli.proofs.Failed.{untouched}
 
 -- it ended so, over a new session
-pub prompted : (plain : Bool) (end : End) (count : ℕ) (left left' held held' : Option (List ℕ)) (log log' : Log) → log ≡ empty_log limits → IsPrompt plain end count left left' held held' log log' → Prompted plain end left left' held held'
-prompted plain end count left left' held held' log log' e p = let P : Log → Type 0 = λ x. IsPrompt plain end count left left' held held' x log' in (count, (log', subst P e p))
+pub prompted : (plain : Bool) (end : End) (count : ℕ) (left left' held held' : Option (List ℕ)) (log log' : Log) → log ≡ empty_log limits → IsPrompt plain log log' end count (record { left = left; left_after = left'; held = held; held_after = held' }) → Prompted plain end left left' held held'
+prompted plain end count left left' held held' log log' e p = let P : Log → Type 0 = λ x. IsPrompt plain x log' end count (record { left = left; left_after = left'; held = held; held_after = held' }) in (count, (log', subst P e p))
 
 -- at the end of input
-pub heard : (plain : Bool) (end : End) (count : ℕ) (left left' held held' : Option (List ℕ)) (log log' : Log) → log ≡ empty_log limits → IsPrompt plain end count left left' held held' log log' → None ≡ prompt_failure_of end → Prompted plain Input left left' held held'
+pub heard : (plain : Bool) (end : End) (count : ℕ) (left left' held held' : Option (List ℕ)) (log log' : Log) → log ≡ empty_log limits → IsPrompt plain log log' end count (record { left = left; left_after = left'; held = held; held_after = held' }) → None ≡ prompt_failure_of end → Prompted plain Input left left' held held'
 heard plain Input count left left' held held' log log' e p n = prompted plain Input count left left' held held' log log' e p
 heard plain ReadFault count left left' held held' log log' e p n = absurd (cc)
 heard plain WriteFault count left left' held held' log log' e p n = absurd (cc)
 heard plain NoMemory count left left' held held' log log' e p n = absurd (cc)
 
 -- before it
-pub broken : (plain : Bool) (end : End) (fault : PromptFault) (count : ℕ) (left left' held held' : Option (List ℕ)) (log log' : Log) → log ≡ empty_log limits → IsPrompt plain end count left left' held held' log log' → Some fault ≡ prompt_failure_of end
+pub broken : (plain : Bool) (end : End) (fault : PromptFault) (count : ℕ) (left left' held held' : Option (List ℕ)) (log log' : Log) → log ≡ empty_log limits → IsPrompt plain log log' end count (record { left = left; left_after = left'; held = held; held_after = held' }) → Some fault ≡ prompt_failure_of end
     → PromptFails plain (Prompt fault) left left' held held'
 broken plain end fault count left left' held held' log log' e p f = ended end (prompted plain end count left left' held held' log log' e p) (sym (ap (option_map (λ x. Prompt x)) f))
 

@@ -56,8 +56,8 @@ failed_as is_hinted failure other users left left' held held' e f =
 
 -- a batch for which there was no memory
 unread : (is_hinted : Bool) (count : ℕ) (left left' held held' : Option (List ℕ)) (house house' : List Account) → Batched is_hinted NoMemory count left left' held held' house house' → Untouched left left' held held'
-unread false count left left' held held' house house' b = nothing_done left left' held held' b.1.read b.1.written b.1.consumed b.1.appended b.1.ended.0 b.1.ended.2
-unread true count left left' held held' house house' b = nothing_done left left' held held' b.1.read b.1.written b.1.consumed b.1.appended b.1.ended.0 b.1.ended.2
+unread false count left left' held held' house house' b = nothing_done left left' held held' b.passed.read b.passed.written b.consumed b.appended b.ended.0 b.ended.2
+unread true count left left' held held' house house' b = nothing_done left left' held held' b.passed.read b.passed.written b.consumed b.appended b.ended.0 b.ended.2
 
 -- a batch failed
 pub failed : (is_hinted : Bool) (end : End) (failure : Failure) (count : ℕ) (users : List (List ℕ)) (left left' held held' : Option (List ℕ)) (house house' : List Account) → IsRoster users → house ≡ new_house limits users → Batched is_hinted end count left left' held held' house house'

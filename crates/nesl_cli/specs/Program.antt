@@ -7,6 +7,7 @@ use Rattle.nesl_house.specs.declared.roster.NewFault.TheVariants as refusal
 use Rattle.nesl_house.specs.Roster.{IsRoster, IsRefused, new_house}
 use Rattle.nesl_house.specs.Runs.{Account}
 use Rattle.nesl_line.specs.Batch.{AnswersAll, IsBatch}
+use Rattle.nesl_line.specs.Exchange.{Streams}
 use Rattle.nesl_line.specs.Hinted.{IsHintedBatch}
 use Rattle.nesl_line.specs.declared.exchange.End.{End}
 use Rattle.nesl_line.specs.declared.exchange.End.TheVariants.{Input, ReadFault, WriteFault}
@@ -38,8 +39,10 @@ limits = record {
 -- a batch, with hints below its answers if `is_hinted`
 abbrev pub Batched
     : (is_hinted : Bool) → End → ℕ → (left left' held held' : Option (List ℕ)) → (house house' : List Account) → Type 0
-Batched false end count left left' held held' house house' = IsBatch end count left left' held held' house house'
-Batched true end count left left' held held' house house' = IsHintedBatch end count left left' held held' house house'
+Batched false end count left left' held held' house house' =
+    IsBatch house house' end count (record { left = left; left_after = left'; held = held; held_after = held' })
+Batched true end count left left' held held' house house' =
+    IsHintedBatch house house' end count (record { left = left; left_after = left'; held = held; held_after = held' })
 
 -- The users are a roster. A house in which each has an empty session answered the lines that were read, until this end.
 abbrev pub Served
@@ -56,7 +59,8 @@ IsAnsweredAnew users text replies = (house : List Account) × AnswersAll (new_ho
 -- a prompt over an empty session answered the lines that were read, until this end
 abbrev pub Prompted : (plain : Bool) → End → (left left' held held' : Option (List ℕ)) → Type 0
 Prompted plain end left left' held held' =
-    (count : ℕ) × ((log : Log) × IsPrompt plain end count left left' held held' (empty_log limits) log)
+    let streams : Streams = record { left = left; left_after = left'; held = held; held_after = held' } in
+    (count : ℕ) × ((log : Log) × IsPrompt plain (empty_log limits) log end count streams)
 
 -- nothing was read or written
 abbrev pub Untouched : Option (List ℕ) → Option (List ℕ) → Option (List ℕ) → Option (List ℕ) → Type 0

@@ -143,16 +143,16 @@ pub one_answer : OwnLinesDecide → OneAnswer
 one_answer decide house one two text replies others a b h k =
     let es = a.answered.events in
     let fs = b.answered.events in
-    let C : List (List ℕ) → Type 0 = λ x. Conversation house None x b.texts fs b.who in
+    let C : List (List ℕ) → Type 0 = λ x. Conversation house None x b.texts fs b.answered.who in
     let said = subst C (all_lines_one text b.lines a.lines b.all a.all) b.answered.said in
-    let alike = conversation_alike house None a.who b.who a.lines a.texts b.texts es fs a.answered.said said in
-    let known = conversation_known house None a.who a.lines a.texts es (λ user e. absurd (cc)) a.answered.said in
+    let alike = conversation_alike house None a.answered.who b.answered.who a.lines a.texts b.texts es fs a.answered.said said in
+    let known = conversation_known house None a.answered.who a.lines a.texts es (λ user e. absurd (cc)) a.answered.said in
     let each : SameReplies house es fs =
     λ user there.
     there_is (replies_of (kept_events user es) ≡ replies_of (kept_events user fs)) (session_of house user) (session_of house user) refl there
     (λ (session : Log) e. (decide house house one two es fs user session a.answered.runs b.answered.runs e e (kept_lines user es fs alike h k)).0) in
     let same = replies_same house es fs alike h k known each in
-    let texts = (conversation_one house house None a.who b.who a.lines a.texts b.texts es fs refl a.answered.said said same).0 in (
+    let texts = (conversation_one house house None a.answered.who b.answered.who a.lines a.texts b.texts es fs refl a.answered.said said same).0 in (
       a.joined ∙ ap text_of texts ∙ sym b.joined,
       λ user session e. (decide house house one two es fs user session a.answered.runs b.answered.runs e e (kept_lines user es fs alike h k)).1,
     )

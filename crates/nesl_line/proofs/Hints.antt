@@ -3,10 +3,9 @@ use Rattle.std.proofs.Common.{◌≡◌, ◌≢◌, ℕ, ◌≤◌, List, [], �
 use Rattle.std.specs.Prelude.{codes, nat_lt, if◌then◌else◌}
 use Rattle.std.proofs.lemmas.Bool.{ltb-false}
 use Rattle.nesl_house.specs.Runs.{Account, AllReplay}
-use Rattle.nesl_line.specs.Conversation.{HouseConversation}
 use Rattle.nesl_line.specs.Lines.{HasNoFeed}
-use Rattle.nesl_line.specs.Steps.{chosen}
-use Rattle.nesl_line.specs.Hinted.{HasHint, HaveHints, IsHintLine, TalkedWithHints, shown}
+use Rattle.nesl_line.specs.Steps.{chosen, HintedTo, TalkedTo}
+use Rattle.nesl_line.specs.Hinted.{HasHint, HaveHints, IsHintLine, shown}
 use Rattle.nesl_line.proofs.Turns.{talked_none}
 
 is_no_feed : (b : ℕ) (small : Bool) → nat_lt b 32 ≡ small → cond small 32 b ≢ 10
@@ -25,17 +24,13 @@ have_more (a ∷ more) [] answer text h one = absurd h
 have_more (a ∷ more) (t ∷ ts) answer text h one = (h.0, have_more more ts answer text h.1 one)
 
 -- one line more was heard
-pub hints_more : (start house' : List Account) (who' : Option (List ℕ)) (lines texts answers : List (List ℕ)) (line answer text : List ℕ) → HouseConversation start (lines ++ line ∷ []) (answers ++ answer ∷ []) who' house' → HaveHints answers texts → HasHint answer text
-    → TalkedWithHints start (lines ++ line ∷ []) (texts ++ text ∷ []) who' house'
-hints_more start house' who' lines texts answers line answer text talked hints one = record {
-  answers = answers ++ answer ∷ [];
-  talked = talked;
-  hints = have_more answers texts answer text hints one;
-}
+pub hints_more : (start house' : List Account) (who' : Option (List ℕ)) (lines texts answers : List (List ℕ)) (line answer text : List ℕ) → TalkedTo start (lines ++ line ∷ []) (answers ++ answer ∷ []) who' house' → HaveHints answers texts → HasHint answer text
+    → HintedTo start (lines ++ line ∷ []) (texts ++ text ∷ []) who' house'
+hints_more start house' who' lines texts answers line answer text t hints one = (record { answers = answers ++ answer ∷ []; talked = t.0; hints = have_more answers texts answer text hints one }, t.1)
 
 -- nothing was heard yet
-pub hints_none : (house : List Account) (items : List ℕ) → AllReplay house → items ≡ [] → TalkedWithHints house [] [] (chosen items) house
-hints_none house items all e = record { answers = []; talked = talked_none house items all e; hints = tt }
+pub hints_none : (house : List Account) (items : List ℕ) → AllReplay house → items ≡ [] → HintedTo house [] [] (chosen items) house
+hints_none house items all e = let t = talked_none house items all e in (record { answers = []; talked = t.0; hints = tt }, t.1)
 
 -- the line of a sentence
 pub hint_line_of : (more front bytes : List ℕ) → front ≡ codes "hint: " → more ≡ front ++ map shown bytes ++ 10 ∷ [] → IsHintLine more

@@ -5,10 +5,10 @@ use Rattle.std.specs.Bool.{MatchBool}
 use Rattle.std.proofs.lemmas.List.{map-append, length-map, length-take}
 use Rattle.std.proofs.lemmas.Grind.{flat_map-append}
 use Rattle.std.specs.Io.KnownBytes.{Appends}
-use Rattle.nesl_line.specs.Lines.{HasNoFeed, handed, most_handed, cut_line, last_line, AllLines, Splits, WholeLines}
-use Rattle.nesl_line.specs.Exchange.{Hearing, text_of, WrittenWhole, WrittenInPart}
+use Rattle.nesl_line.specs.Lines.{HasNoFeed, handed, most_handed, last_line, AllLines, Splits, WholeLines}
+use Rattle.nesl_line.specs.Exchange.{Hearing, text_of, WrittenInPart}
 use Rattle.nesl_line.specs.declared.line.Line.{Line}
-use Rattle.nesl_line.specs.Steps.{Sent, Answered, HasFront, Progress, Ceased, Finished}
+use Rattle.nesl_line.specs.Steps.{Sent, Answered, HasFront, Progress, Ceased, Finished, WrittenWhole}
 use Rattle.nesl_line.proofs.Bytes.{splits_more, splits_feed, splits_on, appends_then}
 
 pub text_of-push : (texts : List (List ℕ)) (text : List ℕ) → text_of (texts ++ text ∷ []) ≡ text_of texts ++ text
@@ -24,7 +24,7 @@ sent_whole a b c texts text before s =
 
 -- what was not was sent in part
 sent_part : (texts : List (List ℕ)) (held held' : Option (List ℕ)) (text : List ℕ) (well : Bool) → (s : Sent held held' text well) → WrittenInPart (texts ++ text ∷ []) (text_of texts ++ s.front)
-sent_part texts held held' text well s = record { before = texts; last = text; front = s.front; lost = s.lost; all = refl; cut = s.split; sent = refl }
+sent_part texts held held' text well s = record { before = texts; front = s.front; lost = s.lost; all = ap (λ x. texts ++ x ∷ []) s.split; sent = refl }
 
 pub went_on : (A B : Type 0) (b : Bool) → MatchBool b A B → b ≡ true → A
 went_on A B true m e = m
@@ -111,9 +111,9 @@ last_line_none : (raw : List ℕ) → take most_handed raw ≡ [] → last_line 
 last_line_none [] e = refl
 last_line_none (b ∷ bs) e = absurd (omega (arith, ap length e, length-take most_handed (b ∷ bs)))
 
-last_line_some : (raw : List ℕ) → 0 < length raw → last_line raw ≡ cut_line raw ∷ []
+last_line_some : (raw : List ℕ) → 0 < length raw → last_line raw ≡ take most_handed raw ∷ []
 last_line_some [] h = absurd (omega (arith, h))
-last_line_some (b ∷ bs) h = ap (λ t. cond t [] (cut_line (b ∷ bs) ∷ [])) (eqb-suc-zero (length bs))
+last_line_some (b ∷ bs) h = ap (λ t. cond t [] (take most_handed (b ∷ bs) ∷ [])) (eqb-suc-zero (length bs))
 
 -- nothing is left at the end of input
 pub finished_before : (Heard : Hearing) (read : List ℕ) (line : Line) (held held' : Option (List ℕ)) (n : ℕ) → Progress Heard read line held held' n → line.bytes.items ≡ [] → Finished Heard read held held' n
@@ -130,7 +130,7 @@ finished_before Heard read line held held' n p e = record {
 module _ (Before After : Hearing) (read bytes : List ℕ) (line : Line) (held held' held'' : Option (List ℕ)) (n : ℕ) (p : Progress Before read line held held' n) (b : bytes ≡ line.bytes.items) (some : 0 < length bytes) where
   last_is : map handed p.whole ++ bytes ∷ [] ≡ map handed p.whole ++ last_line p.raw
   last_is =
-      let same : bytes ≡ cut_line p.raw = b ∙ p.holds.0 in
+      let same : bytes ≡ take most_handed p.raw = b ∙ p.holds.0 in
       let raw_some : 0 < length p.raw = omega (arith, some, ap length same, length-take most_handed p.raw) in
       ap (λ x. map handed p.whole ++ x ∷ []) same ∙ ap (λ x. map handed p.whole ++ x) (sym (last_line_some p.raw raw_some))
 

@@ -1,8 +1,17 @@
 -- Counts of what was written.
 use Rattle.std.proofs.Common.{◌≡◌, ℕ, ◌+◌, ◌-◌, ◌^◌, ◌<◌, ◌≤◌, ◌==◌, ◌&&◌, Bool, true, false, nat_lt, refl, sym, ap, ◌∙◌, subst, arith, ◌⊎◌, inl, inr, ⊎_elim, cond, lt-ltb}
 use Rattle.std.proofs.lemmas.Bool.{cases_lt, eqb-true}
-use Rattle.nesl_line.specs.Tally.{WriteTally, risen_by, Rose, flushed_by, written_by, WriteFailed, ReadTally}
-use Rattle.nesl_line.specs.Steps.{Wrote, Flushed}
+use Rattle.nesl_line.specs.Tally.{WriteTally, risen_by, Rose, flushed_by, ReadTally}
+use Rattle.nesl_line.specs.Steps.{written_by, WriteFailed, Flushed}
+
+pub counted_least : (n k : ℕ) → n ≤ risen_by k n
+counted_least n k = omega arith
+
+pub counted_most : (n k : ℕ) → risen_by k n ≤ n + k
+counted_most n k = omega arith
+
+pub counted_exact : (n k : ℕ) → n + k < 2 ^ 64 → risen_by k n ≡ n + k
+counted_exact n k h = omega (arith, h)
 
 pub counted_none : (n : ℕ) → risen_by 0 n ≡ n
 counted_none n = omega arith
@@ -85,20 +94,17 @@ made_none t = ap (λ n. record t { made = n }) (sym (counted_none t.made))
 pub made_more : (k : ℕ) (old now new : ReadTally) → ReadsMade k old now → new ≡ record now { made = risen_by 1 now.made } → ReadsMade (k + 1) old new
 made_more k old now new e t = t ∙ ap (λ (x : ReadTally). record x { made = risen_by 1 x.made }) e ∙ ap (λ n. record { made = n; failed = old.failed }) (counted_then k 1 old.made)
 
-counted_most : (k n : ℕ) → risen_by k n ≤ n + k
-counted_most k n = omega arith
-
 pub made_few : (k : ℕ) (old new : ReadTally) → ReadsMade k old new → k ≤ 2 ^ 32 → (new.made ≤ old.made + 2 ^ 32) × (new.failed ≡ old.failed)
 made_few k old new e h =
     let made : new.made ≡ risen_by k old.made = ap (λ (x : ReadTally). x.made) e in
-    (omega (arith, made, counted_most k old.made, h), ap (λ (x : ReadTally). x.failed) e)
+    (omega (arith, made, counted_most old.made k, h), ap (λ (x : ReadTally). x.failed) e)
 
 pub made_failed : (k : ℕ) (old now new : ReadTally) → ReadsMade k old now → new ≡ record now { made = risen_by 1 now.made; failed = risen_by 1 now.failed } → k < 2 ^ 32
     → (new.made ≤ old.made + 2 ^ 32) × (Rose old.failed new.failed ⊎ (new.made ≡ risen_by (2 ^ 32) old.made))
 made_failed k old now new e t h =
     let made : new.made ≡ risen_by 1 now.made = ap (λ (x : ReadTally). x.made) t in
     let was : now.made ≡ risen_by k old.made = ap (λ (x : ReadTally). x.made) e in
-    let few : new.made ≤ old.made + 2 ^ 32 = omega (arith, made, was, counted_most 1 now.made, counted_most k old.made, h) in
+    let few : new.made ≤ old.made + 2 ^ 32 = omega (arith, made, was, counted_most now.made 1, counted_most old.made k, h) in
     let failed' : new.failed ≡ risen_by 1 old.failed = ap (λ (x : ReadTally). x.failed) t ∙ ap (λ (x : ReadTally). risen_by 1 x.failed) e in
     let P : ℕ → Type 0 = λ x. Rose old.failed x in
     (few, inl (subst P (sym failed') (rose old.failed)))

@@ -12,8 +12,8 @@ use Rattle.nesl_house.specs.Laws.{ScriptsFollow}
 use Rattle.nesl_house.specs.Runs.{Account, roster_of, session_of, AllReplay, Runs}
 use Rattle.nesl_house.proofs.Alones.{stays_none, was_none, runs_none}
 use Rattle.nesl_line.specs.Lines.{with_feed}
-use Rattle.nesl_line.specs.Conversation.{IsUserLine, NamesNobody, Turn, selects, stranger, nobody, says, Conversation, silence, goes_on, HouseConversation}
-use Rattle.nesl_line.specs.Steps.{chosen, NamesFit, TurnsHouse}
+use Rattle.nesl_line.specs.Conversation.{IsUserLine, NamesNobody, Turn, selects, stranger, nobody, says, Conversation, silence, goes_on}
+use Rattle.nesl_line.specs.Steps.{chosen, NamesFit, TalkedTo, TurnsHouse}
 
 pub missed : {T U : Type 0} (f : T → U) (o : Option T) (x : Option U) (b : Bool) → option_map f o ≡ x → is_some o ≡ not b → b ≡ true → x ≡ None
 missed f None x b e i t = sym e
@@ -92,19 +92,17 @@ conversation_more house who mid next lines texts events more line text (goes_on 
     subst P (sym (append_assoc said rest more)) (goes_on one two next first told (others ++ line ∷ []) (answers ++ text ∷ []) said (rest ++ more) s (conversation_more house two last next others answers rest more line text c t))
 
 -- one line more was heard
-pub talked_more : (start house house' : List Account) (who who' : Option (List ℕ)) (lines texts : List (List ℕ)) (line text : List ℕ) → TurnsHouse house house' who who' line text → HouseConversation start lines texts who house
-    → HouseConversation start (lines ++ line ∷ []) (texts ++ text ∷ []) who' house'
-talked_more start house house' who who' lines texts line text a t = record {
-  events = t.events ++ a.events;
-  said = conversation_more start None who who' lines texts t.events a.events line text t.said (turn_first start house t.events who who' line text a.events t.runs a.turn);
-  runs = a.runs start t.events t.runs;
-}
+pub talked_more : (start house house' : List Account) (who who' : Option (List ℕ)) (lines texts : List (List ℕ)) (line text : List ℕ) → TurnsHouse house house' who who' line text → TalkedTo start lines texts who house
+    → TalkedTo start (lines ++ line ∷ []) (texts ++ text ∷ []) who' house'
+talked_more start house house' who who' lines texts line text a t =
+    let c = t.0 in
+    let P : Option (List ℕ) → Type 0 = λ x. Turn start x line text a.events who' in
+    let turn = subst P (sym t.1) (turn_first start house c.events who who' line text a.events c.runs a.turn) in
+    (record { who = who'; events = c.events ++ a.events; said = conversation_more start None c.who who' lines texts c.events a.events line text c.said turn; runs = a.runs start c.events c.runs }, refl)
 
 -- nothing was heard yet
-pub talked_none : (house : List Account) (items : List ℕ) → AllReplay house → items ≡ [] → HouseConversation house [] [] (chosen items) house
-talked_none house items all e =
-    let P : Option (List ℕ) → Type 0 = λ x. HouseConversation house [] [] x house in
-    subst P (sym (ap chosen e)) (record { events = []; said = silence None; runs = runs_none house all })
+pub talked_none : (house : List Account) (items : List ℕ) → AllReplay house → items ≡ [] → TalkedTo house [] [] (chosen items) house
+talked_none house items all e = (record { who = None; events = []; said = silence None; runs = runs_none house all }, sym (ap chosen e))
 
 pub emptied : (items : List ℕ) (n : ℕ) (b : Bool) → n ≡ length items → b ≡ (n == 0) → b ≡ true → items ≡ []
 emptied [] n b l e t = refl

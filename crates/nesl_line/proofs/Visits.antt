@@ -1,6 +1,6 @@
 -- One user is seated, and speaks.
-use Rattle.std.proofs.Common.{◌≡◌, ◌≢◌, ℕ, ◌+◌, List, [], ◌∷◌, ◌++◌, Bool, true, false, not, cond, Option, Some, None, refl, sym, ap, ◌∙◌, subst, arith, map, inl, inr, ◌⊎◌, append-nil}
-use Rattle.std.specs.Prelude.{filter}
+use Rattle.std.proofs.Common.{◌≡◌, ◌≢◌, ℕ, ◌+◌, List, [], ◌∷◌, ◌++◌, Bool, true, false, not, cond, Option, Some, None, refl, sym, ap, ◌∙◌, subst, arith, map, append-nil}
+use Rattle.std.specs.Prelude.{filter, sum_by}
 use Rattle.std.specs.Bool.{MatchBool}
 use Rattle.std.specs.List.{AllByRecursion}
 use Rattle.std.specs.Str.{bytes_eq}
@@ -22,10 +22,15 @@ use Rattle.nesl_line.specs.declared.guest.Stage.{Stage}
 use Rattle.nesl_line.specs.declared.guest.Stage.TheVariants.{Waiting, Seated, Over}
 use Rattle.nesl_line.specs.Lines.{with_feed}
 use Rattle.nesl_line.specs.Conversation.{IsUserLine}
-use Rattle.nesl_line.specs.Exchange.{Hearing, IsExchange}
-use Rattle.nesl_line.specs.Guest.{NamesPlace, NothingCame, TurnedAway, RefusesSeat, recorded_among, Visits}
+use Rattle.nesl_line.specs.Exchange.{Hearing, Streams, IsExchange}
+use Rattle.nesl_line.specs.Guest.{NamesPlace, Visits, IsHeard, silence, seated}
 use Rattle.nesl_line.specs.Serve.{IsServed}
 use Rattle.nesl_line.specs.Visiting.{IsSeated, HeardAt, is_over, SessionAnswersLine, HasReceipt}
+use Rattle.nesl_line.proofs.Exchanges.{heard_as}
+
+-- the number of these that are replies to recorded lines
+abbrev recorded_among : List Reply → ℕ
+recorded_among replies = sum_by (λ reply. cond reply.recorded 1 0) replies
 
 -- a user is seated
 pub seated_first : (roster : List (List ℕ)) (limits : Limits) (lease : Leased) (line user : List ℕ) → IsUserLine line user → place_of roster user ≡ Some lease.seat.place → lease.seat.session.limits ≡ limits → lease.counted ≡ recorded_lines lease.seat.session → (s : State) × Replays lease.seat.session s
@@ -116,48 +121,43 @@ module _ (roster : List (List ℕ)) (limits : Limits) (lease : Leased) (after : 
         }),
       )
 
--- another hearing that holds of what was heard
-heard_as : (Heard Other : Hearing) (over : Bool) (end : End) (count : ℕ) (left left' held held' : Option (List ℕ)) → (x : IsExchange Heard over end count left left' held held') → Other x.lines x.texts → IsExchange Other over end count left left' held held'
-heard_as Heard Other over end count left left' held held' x other = record {
-  read = x.read;
-  lines = x.lines;
-  texts = x.texts;
-  written = x.written;
-  consumed = x.consumed;
-  appended = x.appended;
-  heard = other;
-  ended = x.ended;
-  counted = x.counted;
-}
+-- no line came
+nothing_came : (roster : List (List ℕ)) (limits : Limits) (lines texts : List (List ℕ)) → (lines ≡ []) × (texts ≡ []) → IsHeard roster limits None false lines texts
+nothing_came roster limits lines texts none =
+    let P : List (List ℕ) → Type 0 = λ x. IsHeard roster limits None false x [] in
+    let Q : List (List ℕ) → Type 0 = λ x. IsHeard roster limits None false lines x in
+    subst Q (sym none.1) (subst P (sym none.0) silence)
 
 -- an exchange of one user, at its end
-pub served_by : (roster : List (List ℕ)) (limits : Limits) (stage : Stage) (receipt : Option Receipt) (end : End) (count : ℕ) (left left' held held' : Option (List ℕ)) → HasReceipt stage receipt → IsExchange (HeardAt roster limits stage) (is_over stage) end count left left' held held'
-    → IsServed roster limits receipt end count left left' held held'
-served_by roster limits Waiting None end count left left' held held' g x = inl x
-served_by roster limits Waiting (Some receipt) end count left left' held held' g x = absurd (cc)
-served_by roster limits Over None end count left left' held held' g x = inr x
-served_by roster limits Over (Some receipt) end count left left' held held' g x = absurd (cc)
-served_by roster limits (Seated lease) None end count left left' held held' g x = absurd g
-served_by roster limits (Seated lease) (Some receipt) end count left left' held held' g x =
+pub served_by : (roster : List (List ℕ)) (limits : Limits) (stage : Stage) (receipt : Option Receipt) (end : End) (count : ℕ) (streams : Streams) → HasReceipt stage receipt → IsExchange (HeardAt roster limits stage) (is_over stage) end count streams
+    → IsServed roster limits (record { lines = count; receipt = receipt; end = end }) streams
+served_by roster limits Waiting None end count streams g x =
+    (false, heard_as (HeardAt roster limits Waiting) (IsHeard roster limits None false) false end count streams x (nothing_came roster limits x.passed.lines x.passed.texts x.heard))
+served_by roster limits Waiting (Some receipt) end count streams g x = absurd (cc)
+served_by roster limits Over None end count streams g x = (true, x)
+served_by roster limits Over (Some receipt) end count streams g x = absurd (cc)
+served_by roster limits (Seated lease) None end count streams g x = absurd g
+served_by roster limits (Seated lease) (Some receipt) end count streams g x =
     let had = x.heard.0 in
     let recorded = x.heard.1 in
-    let Heard : Hearing = HeardAt roster limits (Seated lease) in
+    let lines = x.passed.lines in
+    let texts = x.passed.texts in
     let same : recorded ≡ receipt.recorded = omega (arith, x.heard.2, x.heard.3.grown, g.1) in
-    let P : ℕ → Type 0 = λ n. Visits roster limits lease.seat.place n had lease.seat.session x.lines x.texts in
-    let Q : ℕ → Type 0 = λ n. Visits roster limits n receipt.recorded had lease.seat.session x.lines x.texts in
-    (had, lease.seat.session, heard_as Heard (Visits roster limits receipt.place receipt.recorded had lease.seat.session) false end count left left' held held' x (subst Q (sym g.0) (subst P same x.heard.3)))
+    let P : ℕ → Type 0 = λ n. Visits roster limits lease.seat.place n had lease.seat.session lines texts in
+    let Q : ℕ → Type 0 = λ n. Visits roster limits n receipt.recorded had lease.seat.session lines texts in
+    (false, heard_as (HeardAt roster limits (Seated lease)) (IsHeard roster limits (Some receipt) false) false end count streams x (seated receipt had lease.seat.session lines texts (subst Q (sym g.0) (subst P same x.heard.3))))
 
 -- the same of a guest, whose table is that of the beginning
-pub served_at : (table first now : Register) (stage : Stage) (receipt : Option Receipt) (end : End) (count : ℕ) (left left' held held' : Option (List ℕ)) → first ≡ table → HasReceipt stage receipt
-    → IsExchange (λ lines texts. (now ≡ first) × HeardAt first.roster first.limits stage lines texts) (is_over stage) end count left left' held held' → IsServed table.roster table.limits receipt end count left left' held held'
-served_at table first now stage receipt end count left left' held held' e g x =
-    let P : Register → Type 0 = λ t. IsServed t.roster t.limits receipt end count left left' held held' in
+pub served_at : (table first now : Register) (stage : Stage) (receipt : Option Receipt) (end : End) (count : ℕ) (streams : Streams) → first ≡ table → HasReceipt stage receipt
+    → IsExchange (λ lines texts. (now ≡ first) × HeardAt first.roster first.limits stage lines texts) (is_over stage) end count streams → IsServed table.roster table.limits (record { lines = count; receipt = receipt; end = end }) streams
+served_at table first now stage receipt end count streams e g x =
+    let P : Register → Type 0 = λ t. IsServed t.roster t.limits (record { lines = count; receipt = receipt; end = end }) streams in
     let Before : Hearing = λ lines texts. (now ≡ first) × HeardAt first.roster first.limits stage lines texts in
-    subst P e (served_by first.roster first.limits stage receipt end count left left' held held' g (heard_as Before (HeardAt first.roster first.limits stage) (is_over stage) end count left left' held held' x x.heard.1))
+    subst P e (served_by first.roster first.limits stage receipt end count streams g (heard_as Before (HeardAt first.roster first.limits stage) (is_over stage) end count streams x x.heard.1))
 
 -- nobody was seated, and this is the reply
-pub turned_away : (roster : List (List ℕ)) (line : List ℕ) (reply told : Reply) → told ≡ reply → RefusesSeat roster line reply → TurnedAway roster (line ∷ []) (told.bytes ∷ [])
-turned_away roster line reply told e r = record { line = line; reply = reply; refuses = r; came = refl; told = ap (λ (x : Reply). x.bytes ∷ []) e }
+pub turned_away : (roster : List (List ℕ)) (limits : Limits) (line : List ℕ) (reply told : Reply) → told ≡ reply → IsHeard roster limits None true (line ∷ []) (reply.bytes ∷ []) → IsHeard roster limits None true (line ∷ []) (told.bytes ∷ [])
+turned_away roster limits line reply told e h = let P : Reply → Type 0 = λ x. IsHeard roster limits None true (line ∷ []) (x.bytes ∷ []) in subst P (sym e) h
 
 pub names_none : (roster : List (List ℕ)) (line user : List ℕ) → IsUserLine line user → place_of roster user ≡ None → (place : ℕ) → NamesPlace roster line place → ⊥
 names_none roster line user u none place n =

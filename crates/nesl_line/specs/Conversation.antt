@@ -1,21 +1,17 @@
 -- What is replied to the lines that come in.
-use Rattle.std.specs.Prelude.{◌≡◌, ◌≢◌, ℕ, ◌<◌, List, [], ◌∷◌, ◌++◌, Option, Some, None, Bool, true, ◌||◌, ◌&&◌}
-use Rattle.std.specs.Prelude.{length, codes, nat_le}
+use Rattle.std.specs.Prelude.{◌≡◌, ◌≢◌, ℕ, ◌<◌, List, [], ◌∷◌, ◌++◌, Option, Some, None, true, ◌||◌, length, codes}
 use Rattle.std.specs.List.{AllByRecursion}
 use Rattle.nesl_session_meaning.specs.Response.{Reply, no_user}
+use Rattle.nesl_house.specs.Roster.{is_digit, is_small_letter}
 use Rattle.nesl_house.specs.Script.{Event}
 use Rattle.nesl_house.specs.Runs.{Account, session_of, Runs}
 use Rattle.nesl_line.specs.Lines.{with_feed}
 
--- a to z, or 0 to 9
-abbrev pub is_user_name_byte : ℕ → Bool
-is_user_name_byte b = nat_le 97 b && nat_le b 122 || nat_le 48 b && nat_le b 57
-
--- a user line: `user`, one space, a name of letters and digits, and nothing else
+-- a user line: `user`, one space, a name of small letters and digits, and nothing else
 pub record IsUserLine (line name : List ℕ) : Type 0 where
   pub spelled : line ≡ codes "user " ++ name
   pub some : 0 < length name
-  pub bytes : AllByRecursion (λ b. is_user_name_byte b ≡ true) name
+  pub bytes : AllByRecursion (λ b. (is_small_letter b || is_digit b) ≡ true) name
 
 -- this is no user line
 abbrev pub NamesNobody : List ℕ → Type 0
@@ -49,9 +45,8 @@ pub data Conversation (house : List Account)
 
 -- At first nobody is selected. The lines get these texts, and `who` is selected afterwards. The house answers what is
 -- said to it, and becomes `house'`.
-pub record HouseConversation (house : List Account) (lines texts : List (List ℕ)) (who : Option (List ℕ))
-    (house' : List Account)
-    : Type 0 where
+pub record HouseConversation (house : List Account) (lines texts : List (List ℕ)) (house' : List Account) : Type 0 where
+  pub who : Option (List ℕ)
   pub events : List Event
   pub said : Conversation house None lines texts events who
   pub runs : Runs house events house'

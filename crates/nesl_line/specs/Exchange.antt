@@ -5,82 +5,88 @@ use Rattle.std.specs.Io.KnownBytes.{Consumes, Appends, IsAtEnd}
 use Rattle.nesl_line.specs.declared.exchange.End.{End}
 use Rattle.nesl_line.specs.declared.exchange.End.TheVariants.{Input, ReadFault, WriteFault, NoMemory}
 use Rattle.nesl_line.specs.Lines.{AllLines, WholeLines}
-use Rattle.nesl_line.specs.Tally.{ReadTally, WriteTally, Rose, WriteFailed, risen_by, flushed_by}
+use Rattle.nesl_line.specs.Tally.{ReadTally, WriteTally, Rose, risen_by, flushed_by}
 
 -- these lines were heard, and got these texts as replies
 abbrev pub Hearing : Type 1
 Hearing = (lines texts : List (List ℕ)) → Type 0
 
+-- The bytes of a reader and of a writer, before and after an exchange; `None` where they aren't known.
+pub record Streams : Type 0 where
+  -- what was left to read, and what is left to read afterwards
+  pub left : Option (List ℕ)
+  pub left_after : Option (List ℕ)
+  -- what was written before, and all that was written afterwards
+  pub held : Option (List ℕ)
+  pub held_after : Option (List ℕ)
+
+-- what passed in an exchange
+pub record Exchanged : Type 0 where
+  -- the bytes that were read
+  pub read : List ℕ
+  -- the lines that were heard
+  pub lines : List (List ℕ)
+  -- the text replied to each of these lines
+  pub texts : List (List ℕ)
+  -- the bytes that were written
+  pub written : List ℕ
+
 -- the answers one after the other
 abbrev pub text_of : List (List ℕ) → List ℕ
 text_of texts = flat_map (λ text. text) texts
 
--- all answers were written
-abbrev pub WrittenWhole : List (List ℕ) → List ℕ → Type 0
-WrittenWhole texts written = written ≡ text_of texts
-
--- all answers but the last were written, and a prefix of the last
+-- all answers but the last were written, and a front of the last
 pub record WrittenInPart (texts : List (List ℕ)) (written : List ℕ) : Type 0 where
   pub before : List (List ℕ)
-  pub last : List ℕ
   pub front : List ℕ
   pub lost : List ℕ
-  pub all : texts ≡ before ++ last ∷ []
-  pub cut : last ≡ front ++ lost
+  pub all : texts ≡ before ++ (front ++ lost) ∷ []
   pub sent : written ≡ text_of before ++ front
 
--- the lines that have come when this was read and this is left: those whose LF came, and the rest at the end of input
-pub data HaveCome (read : List ℕ) (left : Option (List ℕ)) (lines : List (List ℕ)) : Type 0 where
-  by_their_feeds : WholeLines read lines → HaveCome read left lines
-  by_the_end : IsAtEnd left → AllLines read lines → HaveCome read left lines
-
--- the first of the lines that have come
-abbrev pub AreFirst : (read : List ℕ) (left : Option (List ℕ)) (lines : List (List ℕ)) → Type 0
-AreFirst read left lines = (more : List (List ℕ)) × HaveCome read left (lines ++ more)
+-- The first of the lines that have come when this was read and this is left. A line has come with its LF. At the end of
+-- input the rest has come too.
+pub data AreFirst (read : List ℕ) (left : Option (List ℕ)) (lines : List (List ℕ)) : Type 0 where
+  by_their_feeds : (more : List (List ℕ)) → WholeLines read (lines ++ more) → AreFirst read left lines
+  by_the_end : (more : List (List ℕ)) → IsAtEnd left → AllLines read (lines ++ more) → AreFirst read left lines
 
 -- Which of the lines that were read were heard, and what of the answers was written. This depends on how the exchange
 -- ended, on whether nothing more was heard, and on what is left to read.
-abbrev pub Ended : End → Bool → Option (List ℕ) → List ℕ → List (List ℕ) → List (List ℕ) → List ℕ → Type 0
+abbrev pub Ended : End → (over : Bool) → (left : Option (List ℕ)) → Exchanged → Type 0
 -- the first of the lines that have come, and all answers
-Ended Input true left read lines texts written = AreFirst read left lines × WrittenWhole texts written
+Ended Input true left x = AreFirst x.read left x.lines × (x.written ≡ text_of x.texts)
 -- all lines of all bytes, and all answers
-Ended Input false left read lines texts written = IsAtEnd left × AllLines read lines × WrittenWhole texts written
+Ended Input false left x = IsAtEnd left × AllLines x.read x.lines × (x.written ≡ text_of x.texts)
 -- the lines whose LF came, and all answers
-Ended ReadFault over left read lines texts written = WholeLines read lines × WrittenWhole texts written
+Ended ReadFault over left x = WholeLines x.read x.lines × (x.written ≡ text_of x.texts)
 -- the first of the lines that have come, and all answers but the last
-Ended WriteFault over left read lines texts written = AreFirst read left lines × WrittenInPart texts written
+Ended WriteFault over left x = AreFirst x.read left x.lines × WrittenInPart x.texts x.written
 -- nothing was read or written
-Ended NoMemory over left read lines texts written = (read ≡ []) × (lines ≡ []) × (written ≡ [])
+Ended NoMemory over left x = (x.read ≡ []) × (x.lines ≡ []) × (x.written ≡ [])
 
--- An exchange that ended so when `count` lines were answered. A reader had `left` and then `left'`, and a writer held
--- `held` and then `held'`. `Heard` relates the lines to the texts replied to them, and `over` is whether nothing more
--- was heard.
-pub record IsExchange
-    (Heard : Hearing) (over : Bool) (end : End) (count : ℕ) (left left' held held' : Option (List ℕ)) : Type 0 where
-  pub read : List ℕ
-  pub lines : List (List ℕ)
-  pub texts : List (List ℕ)
-  pub written : List ℕ
-  pub consumed : Consumes left left' read
-  pub appended : Appends held held' written
-  pub heard : Heard lines texts
-  pub ended : Ended end over left' read lines texts written
-  pub counted : count ≡ length lines
+-- An exchange over these streams that ended so when `count` lines were answered. `Heard` relates the lines to the texts
+-- replied to them, and `over` is whether nothing more was heard.
+pub record IsExchange (Heard : Hearing) (over : Bool) (end : End) (count : ℕ) (streams : Streams) : Type 0 where
+  pub passed : Exchanged
+  pub consumed : Consumes streams.left streams.left_after passed.read
+  pub appended : Appends streams.held streams.held_after passed.written
+  pub heard : Heard passed.lines passed.texts
+  pub ended : Ended end over streams.left_after passed
+  pub counted : count ≡ length passed.lines
 
 -- By how the exchange ended: the number of reads that were made, at most 2^32, and whether one failed.
 abbrev pub ReadsTallied : End → ReadTally → ReadTally → Type 0
-ReadsTallied Input old new = (new.made ≤ old.made + 2 ^ 32) × (new.failed ≡ old.failed)
+ReadsTallied NoMemory old new = new ≡ old
 -- a read failed, or 2^32 reads were made
 ReadsTallied ReadFault old new =
     (new.made ≤ old.made + 2 ^ 32) × (Rose old.failed new.failed ⊎ (new.made ≡ risen_by (2 ^ 32) old.made))
-ReadsTallied WriteFault old new = (new.made ≤ old.made + 2 ^ 32) × (new.failed ≡ old.failed)
-ReadsTallied NoMemory old new = new ≡ old
+-- at the end of input, or after a write fault, no read failed
+ReadsTallied end old new = (new.made ≤ old.made + 2 ^ 32) × (new.failed ≡ old.failed)
 
 -- By how the exchange ended after `count` answers: each was flushed and no byte of them is unflushed, or something
 -- failed.
 abbrev pub WritesTallied : End → ℕ → WriteTally → WriteTally → Type 0
-WritesTallied Input count old new = new ≡ flushed_by count old
-WritesTallied ReadFault count old new = new ≡ flushed_by count old
--- a write or a flush failed, or a write took no byte
-WritesTallied WriteFault count old new = WriteFailed old new
 WritesTallied NoMemory count old new = new ≡ old
+-- a write or a flush failed, or a write took no byte
+WritesTallied WriteFault count old new = Rose old.failed new.failed ⊎ Rose old.stalled new.stalled
+-- at the end of input, or after a read fault, all answers were flushed
+WritesTallied end count old new = new ≡ flushed_by count old

@@ -1,9 +1,9 @@
 -- Hints below answers.
-use Rattle.std.specs.Prelude.{◌≡◌, ℕ, List, [], ◌∷◌, ◌++◌, Option, Bool, false, codes, map, nat_lt, if◌then◌else◌}
+use Rattle.std.specs.Prelude.{◌≡◌, ℕ, List, [], ◌∷◌, ◌++◌, false, codes, nat_lt, if◌then◌else◌}
 use Rattle.nesl_house.specs.Runs.{Account}
 use Rattle.nesl_line.specs.declared.exchange.End.{End}
 use Rattle.nesl_line.specs.Conversation.{HouseConversation}
-use Rattle.nesl_line.specs.Exchange.{IsExchange}
+use Rattle.nesl_line.specs.Exchange.{IsExchange, Streams}
 use Rattle.nesl_line.specs.Lines.{HasNoFeed}
 
 -- how a byte of a hint is written: a blank in place of a line end, and of each other byte below 32
@@ -29,15 +29,12 @@ HaveHints [] (text ∷ texts) = ⊥
 HaveHints (answer ∷ answers) [] = ⊥
 
 -- The conversation with the house was this one, and the answers have hints below them.
-pub record TalkedWithHints
-    (house : List Account) (lines texts : List (List ℕ)) (who : Option (List ℕ)) (house' : List Account) : Type 0 where
+pub record TalkedWithHints (house : List Account) (lines texts : List (List ℕ)) (house' : List Account) : Type 0 where
   pub answers : List (List ℕ)
-  pub talked : HouseConversation house lines answers who house'
+  pub talked : HouseConversation house lines answers house'
   pub hints : HaveHints answers texts
 
 -- A batch as in `IsBatch`, with hints below its answers.
-abbrev pub IsHintedBatch
-    : End → ℕ → (left left' held held' : Option (List ℕ)) → (house house' : List Account) → Type 0
-IsHintedBatch end count left left' held held' house house' =
-    (who : Option (List ℕ))
-    × IsExchange (λ lines texts. TalkedWithHints house lines texts who house') false end count left left' held held'
+abbrev pub IsHintedBatch : (house house' : List Account) → End → ℕ → Streams → Type 0
+IsHintedBatch house house' end count streams =
+    IsExchange (λ lines texts. TalkedWithHints house lines texts house') false end count streams

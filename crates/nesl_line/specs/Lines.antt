@@ -22,16 +22,13 @@ pub record Splits (text : List ℕ) (lines : List (List ℕ)) (rest : List ℕ) 
 abbrev pub most_handed : ℕ
 most_handed = longest + 1
 
-abbrev pub cut_line : List ℕ → List ℕ
-cut_line line = take most_handed line
-
 -- what is handed on of a line that had its LF: one CR directly before the LF is dropped
 abbrev pub handed : List ℕ → List ℕ
-handed line = cut_line (strip_carriage_return line)
+handed line = take most_handed (strip_carriage_return line)
 
 -- what is handed on of the rest of a text that has ended: it is a line unless it is empty, and a CR stays
 abbrev pub last_line : List ℕ → List (List ℕ)
-last_line rest = if length rest == 0 then [] else cut_line rest ∷ []
+last_line rest = if length rest == 0 then [] else take most_handed rest ∷ []
 
 -- the lines of a text that was read to its end
 pub record AllLines (text : List ℕ) (lines : List (List ℕ)) : Type 0 where

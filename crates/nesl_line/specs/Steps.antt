@@ -1,5 +1,5 @@
 -- What the steps of the code keep, from which `IsExchange` follows.
-use Rattle.std.specs.Prelude.{◌≡◌, ℕ, ◌≤◌, List, [], ◌∷◌, ◌++◌, Option, Some, None, Bool, true, false}
+use Rattle.std.specs.Prelude.{◌≡◌, ℕ, ◌≤◌, ◌⊎◌, List, [], ◌∷◌, ◌++◌, Option, Some, None, Bool, true, false}
 use Rattle.std.specs.Prelude.{take, length, nat_lt, map}
 use Rattle.std.specs.Bool.{MatchBool}
 use Rattle.std.specs.List.{AllByRecursion}
@@ -11,9 +11,10 @@ use Rattle.nesl_line.specs.declared.talk.Flow.{Flow}
 use Rattle.nesl_line.specs.declared.talk.Flow.TheVariants.{On, Over, Broken}
 use Rattle.nesl_line.specs.declared.talk.Talk.{Talk}
 use Rattle.nesl_line.specs.Lines.{Splits, handed, most_handed, AllLines, WholeLines}
-use Rattle.nesl_line.specs.Conversation.{Turn}
-use Rattle.nesl_line.specs.Tally.{WriteTally, WriteFailed, flushed_by, written_by}
-use Rattle.nesl_line.specs.Exchange.{Hearing, text_of, WrittenWhole, WrittenInPart}
+use Rattle.nesl_line.specs.Conversation.{Turn, HouseConversation}
+use Rattle.nesl_line.specs.Tally.{WriteTally, Rose, risen_by, flushed_by}
+use Rattle.nesl_line.specs.Exchange.{Hearing, text_of, WrittenInPart}
+use Rattle.nesl_line.specs.Hinted.{TalkedWithHints}
 
 -- a prefix of the bytes was written, and all of them if it went well
 pub record Sent (held held' : Option (List ℕ)) (bytes : List ℕ) (well : Bool) : Type 0 where
@@ -22,6 +23,14 @@ pub record Sent (held held' : Option (List ℕ)) (bytes : List ℕ) (well : Bool
   pub split : bytes ≡ front ++ lost
   pub all : well ≡ true → lost ≡ []
   pub appended : Appends held held' front
+
+-- k bytes that were written
+abbrev pub written_by : ℕ → WriteTally → WriteTally
+written_by k tally = record tally { unflushed = risen_by k tally.unflushed }
+
+-- a write or a flush failed, or a write took no byte
+abbrev pub WriteFailed : WriteTally → WriteTally → Type 0
+WriteFailed old new = Rose old.failed new.failed ⊎ Rose old.stalled new.stalled
 
 -- if it went well, k bytes were written and nothing else; otherwise something failed
 abbrev pub Wrote : Bool → ℕ → WriteTally → WriteTally → Type 0
@@ -60,6 +69,14 @@ pub record TurnsHouse (house house' : List Account) (who who' : Option (List ℕ
   pub runs : (start : List Account) (before : List Event) → Runs start before house →
       Runs start (before ++ events) house'
 
+-- a conversation with a house, after which `who` is selected
+abbrev pub TalkedTo : List Account → (lines texts : List (List ℕ)) → Option (List ℕ) → List Account → Type 0
+TalkedTo house lines texts who house' = (talked : HouseConversation house lines texts house') × (talked.who ≡ who)
+
+-- the same with hints below the answers
+abbrev pub HintedTo : List Account → (lines texts : List (List ℕ)) → Option (List ℕ) → List Account → Type 0
+HintedTo house lines texts who house' = (hinted : TalkedWithHints house lines texts house') × (hinted.talked.who ≡ who)
+
 -- one line was heard, and its reply was sent
 pub record Answered
     (Before After : Hearing) (line : List ℕ) (held held' : Option (List ℕ)) (well : Bool) : Type 0 where
@@ -82,6 +99,10 @@ pub record Progress
   pub heard : Heard (map handed whole) texts
   pub appended : Appends held held' (text_of texts)
   pub counted : count ≡ length whole
+
+-- all answers were written
+abbrev pub WrittenWhole : List (List ℕ) → List ℕ → Type 0
+WrittenWhole texts written = written ≡ text_of texts
 
 -- This was read, and after `count` answers no more of its lines is answered. `Has` relates a text to its lines, and
 -- `Written` relates the answers to what was written of them.

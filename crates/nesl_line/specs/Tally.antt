@@ -2,7 +2,7 @@
 use Rattle.std.specs.Prelude.{ℕ, ◌+◌, ◌-◌, ◌^◌, ◌<◌, ◌≤◌, ◌==◌, ◌&&◌, ◌⊎◌, List, Result, Ok, Err}
 use Rattle.std.specs.Prelude.{length, min, max, nat_lt, if◌then◌else◌}
 
--- n and k more, but the count stays at 2^64 - 1
+-- n and k more, but the count stays at 2^64 - 1. Below that it is n + k, by the law `counts_rise`.
 abbrev pub risen_by : ℕ → ℕ → ℕ
 risen_by k n = max n (min (n + k) (2 ^ 64 - 1))
 
@@ -28,29 +28,19 @@ pub record WriteTally : Type 0 where
   pub flushed : ℕ
   pub unflushed : ℕ
 
--- k bytes that were written
-abbrev pub written_by : ℕ → WriteTally → WriteTally
-written_by k tally = record tally { unflushed = risen_by k tally.unflushed }
-
 -- one write more
 abbrev pub after_write : {E : Type 0} → WriteTally → List ℕ → Result ℕ E → WriteTally
 after_write tally bytes (Ok n) =
     if n == 0 && nat_lt 0 (length bytes) then record tally { stalled = risen_by 1 tally.stalled }
-    else written_by n tally
+    else record tally { unflushed = risen_by n tally.unflushed }
 after_write tally bytes (Err e) = record tally { failed = risen_by 1 tally.failed }
 
 -- n flushes that went well, with nothing written after the last; then no byte is unflushed, unless n is 0
 abbrev pub flushed_by : ℕ → WriteTally → WriteTally
-flushed_by n tally = record tally {
-  flushed = risen_by n tally.flushed;
-  unflushed = if n == 0 then tally.unflushed else 0;
-}
+flushed_by n tally =
+    record tally { flushed = risen_by n tally.flushed; unflushed = if n == 0 then tally.unflushed else 0 }
 
 -- one flush more
 abbrev pub after_flush : {A E : Type 0} → WriteTally → Result A E → WriteTally
 after_flush tally (Ok _) = flushed_by 1 tally
 after_flush tally (Err e) = record tally { failed = risen_by 1 tally.failed }
-
--- a write or a flush failed, or a write took no byte
-abbrev pub WriteFailed : WriteTally → WriteTally → Type 0
-WriteFailed old new = Rose old.failed new.failed ⊎ Rose old.stalled new.stalled

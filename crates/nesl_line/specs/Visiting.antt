@@ -1,5 +1,5 @@
 -- What is kept while one connection's lines are heard.
-use Rattle.std.specs.Prelude.{◌≡◌, ℕ, ◌+◌, List, Option, Some, None, Bool, true, false}
+use Rattle.std.specs.Prelude.{◌≡◌, ℕ, ◌+◌, List, [], Option, Some, None, Bool, true, false}
 use Rattle.std.specs.Fn.{Shared}
 use denote.Ref.{Bor}
 use Rattle.nesl_session_meaning.specs.declared.limits.Limits.{Limits}
@@ -11,7 +11,7 @@ use Rattle.nesl_house.specs.Register.{Leased}
 use Rattle.nesl_line.specs.declared.guest.Stage.{Stage}
 use Rattle.nesl_line.specs.declared.guest.Stage.TheVariants.{Waiting, Seated, Over}
 use Rattle.nesl_line.specs.Exchange.{Hearing}
-use Rattle.nesl_line.specs.Guest.{NothingCame, TurnedAway, Visits}
+use Rattle.nesl_line.specs.Guest.{IsHeard, Visits}
 
 -- a user was seated, and these lines were heard since
 abbrev pub IsSeated : (roster : List (List ℕ)) → Limits → Leased → Hearing
@@ -21,9 +21,9 @@ IsSeated roster limits lease lines texts =
 
 -- what was heard, by the stage of a guest
 abbrev pub HeardAt : (roster : List (List ℕ)) → Limits → Stage → Hearing
-HeardAt roster limits Waiting lines texts = NothingCame lines texts
+HeardAt roster limits Waiting lines texts = (lines ≡ []) × (texts ≡ [])
 HeardAt roster limits (Seated lease) lines texts = IsSeated roster limits lease lines texts
-HeardAt roster limits Over lines texts = TurnedAway roster lines texts
+HeardAt roster limits Over lines texts = IsHeard roster limits None true lines texts
 
 -- nothing more is heard
 abbrev pub is_over : Stage → Bool

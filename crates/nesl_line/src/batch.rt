@@ -39,8 +39,12 @@ pub fn batch<S: Source, W: Sink>(
     writer: &mut W,
     house: &mut House,
 ) -> Ran
-    ensures batch { IsBatch result.end result.lines (S.left reader.old) (S.left reader.new) (W.held writer.old)
-        (W.held writer.new) house.old house.new }
+    ensures batch { IsBatch house.old house.new result.end result.lines (record {
+      left = S.left reader.old;
+      left_after = S.left reader.new;
+      held = W.held writer.old;
+      held_after = W.held writer.new;
+    }) }
     ensures reads { ReadsTallied result.end (S.tally reader.old) (S.tally reader.new) }
     ensures writes { WritesTallied result.end result.lines (W.tally writer.old) (W.tally writer.new) }
 {
@@ -55,8 +59,12 @@ pub fn batch_in<S: Source, W: Sink, A: Allocator + Copy>(
     house: &mut House,
     heap: A,
 ) -> Ran
-    ensures batch { IsBatch result.end result.lines (S.left reader.old) (S.left reader.new) (W.held writer.old)
-        (W.held writer.new) house.old house.new }
+    ensures batch { IsBatch house.old house.new result.end result.lines (record {
+      left = S.left reader.old;
+      left_after = S.left reader.new;
+      held = W.held writer.old;
+      held_after = W.held writer.new;
+    }) }
     ensures reads { ReadsTallied result.end (S.tally reader.old) (S.tally reader.new) }
     ensures writes { WritesTallied result.end result.lines (W.tally writer.old) (W.tally writer.new) }
 {
@@ -71,8 +79,12 @@ pub fn batch_by<S: Source, W: Sink, M: Manner>(
     house: &mut House,
     manner: &M,
 ) -> Ran
-    ensures batch { IsBatch result.end result.lines (S.left reader.old) (S.left reader.new) (W.held writer.old)
-        (W.held writer.new) house.old house.new }
+    ensures batch { IsBatch house.old house.new result.end result.lines (record {
+      left = S.left reader.old;
+      left_after = S.left reader.new;
+      held = W.held writer.old;
+      held_after = W.held writer.new;
+    }) }
     ensures reads { ReadsTallied result.end (S.tally reader.old) (S.tally reader.new) }
     ensures writes { WritesTallied result.end result.lines (W.tally writer.old) (W.tally writer.new) }
 {

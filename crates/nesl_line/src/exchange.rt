@@ -46,8 +46,12 @@ pub fn exchange<S: Source, W: Sink, H: Hearer>(
     requires ready { H.ready hearer.old world.old }
     requires nothing_heard { H.heard hearer.old world.old hearer.old world.old [] [] }
     ensures exchange { IsExchange (H.heard hearer.old world.old hearer.new world.new)
-        (H.over hearer.new) result.end result.lines
-        (S.left reader.old) (S.left reader.new) (W.held writer.old) (W.held writer.new) }
+        (H.over hearer.new) result.end result.lines (record {
+          left = S.left reader.old;
+          left_after = S.left reader.new;
+          held = W.held writer.old;
+          held_after = W.held writer.new;
+        }) }
     ensures reads { ReadsTallied result.end (S.tally reader.old) (S.tally reader.new) }
     ensures writes { WritesTallied result.end result.lines (W.tally writer.old) (W.tally writer.new) }
 {
@@ -77,8 +81,12 @@ fn converse<S: Source, W: Sink, H: Hearer>(
     requires ready { H.ready hearer.old world.old }
     requires nothing_heard { H.heard hearer.old world.old hearer.old world.old [] [] }
     ensures exchange { IsExchange (H.heard hearer.old world.old hearer.new world.new)
-        (H.over hearer.new) result talk.new.lines
-        (S.left reader.old) (S.left reader.new) (W.held writer.old) (W.held writer.new) }
+        (H.over hearer.new) result talk.new.lines (record {
+          left = S.left reader.old;
+          left_after = S.left reader.new;
+          held = W.held writer.old;
+          held_after = W.held writer.new;
+        }) }
     ensures reads { ReadsTallied result (S.tally reader.old) (S.tally reader.new) }
     ensures writes { WritesTallied result talk.new.lines (W.tally writer.old) (W.tally writer.new) }
 {

@@ -2,8 +2,8 @@
 ghost use Rattle.std.specs.Prelude.{◌≡◌, ◌∷◌, ◌++◌, [], IfOk, IfSome, OnOk, false, map};
 ghost use Rattle.std.specs.Vec.{vec_capacity};
 ghost use Rattle.nesl_line.specs.Exchange.{ReadsTallied, WritesTallied};
-ghost use Rattle.nesl_line.specs.Hinted.{HasHint, IsHintLine, IsHintedBatch, TalkedWithHints, shown};
-ghost use Rattle.nesl_line.specs.Steps.{NamesFit, chosen};
+ghost use Rattle.nesl_line.specs.Hinted.{HasHint, IsHintLine, IsHintedBatch, shown};
+ghost use Rattle.nesl_line.specs.Steps.{HintedTo, NamesFit, chosen};
 ghost use Rattle.nesl_line.specs.Told.{text_told};
 
 use crate::batch::longest_name;
@@ -40,7 +40,7 @@ impl<M: Manner, H: Hinter> Hearer for Hinting<'_, M, H> {
     type World = House;
 
     ghost heard = { λ first start now house lines texts.
-        TalkedWithHints start lines texts (chosen now.chooser.who.items) house };
+        HintedTo start lines texts (chosen now.chooser.who.items) house };
 
     ghost over = { λ hinting. false };
 
@@ -160,8 +160,12 @@ pub fn batch_with_hints<S: Source, W: Sink, M: Manner, H: Hinter>(
     manner: &M,
     hinter: &H,
 ) -> Ran
-    ensures batch { IsHintedBatch result.end result.lines (S.left reader.old) (S.left reader.new) (W.held writer.old)
-        (W.held writer.new) house.old house.new }
+    ensures batch { IsHintedBatch house.old house.new result.end result.lines (record {
+      left = S.left reader.old;
+      left_after = S.left reader.new;
+      held = W.held writer.old;
+      held_after = W.held writer.new;
+    }) }
     ensures reads { ReadsTallied result.end (S.tally reader.old) (S.tally reader.new) }
     ensures writes { WritesTallied result.end result.lines (W.tally writer.old) (W.tally writer.new) }
 {

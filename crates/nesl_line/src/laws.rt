@@ -1,10 +1,11 @@
 //! What holds of texts and conversations.
-ghost use Rattle.std.specs.Prelude.{◌≡◌, ℕ, List, Option};
+ghost use Rattle.std.specs.Prelude.{◌≡◌, ℕ, ◌+◌, ◌^◌, ◌<◌, ◌≤◌, List, Option};
 ghost use Rattle.nesl_house.specs.Script.{Event, replies_of};
 ghost use Rattle.nesl_house.specs.Runs.{Account, roster_of};
 ghost use Rattle.nesl_line.specs.Lines.{AllLines, WholeLines};
 ghost use Rattle.nesl_line.specs.Conversation.{Conversation};
 ghost use Rattle.nesl_line.specs.Laws.{OneAnswer};
+ghost use Rattle.nesl_line.specs.Tally.{risen_by};
 
 use nesl_house::laws::own_lines_decide;
 
@@ -32,3 +33,10 @@ pub fn one_answer()
 {
     own_lines_decide();
 }
+
+/// A count with k more is at least what it was, and at most k more. Below 2^64 it is exactly k more.
+pub fn counts_rise()
+    ensures least { (n k : ℕ) → n ≤ risen_by k n }
+    ensures most { (n k : ℕ) → risen_by k n ≤ n + k }
+    ensures exact { (n k : ℕ) → n + k < 2 ^ 64 → risen_by k n ≡ n + k }
+{}

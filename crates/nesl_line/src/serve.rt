@@ -35,8 +35,12 @@ pub fn serve<'t, S: Source, W: Sink, R: Threads + Wait + Sync, H: Helpers + Sync
     helpers: &'t H,
     gate: &'t G,
 ) -> Served
-    ensures served { IsServed table.now.roster table.now.limits result.receipt result.end result.lines
-        (S.left reader.old) (S.left reader.new) (W.held writer.old) (W.held writer.new) }
+    ensures served { IsServed table.now.roster table.now.limits result (record {
+      left = S.left reader.old;
+      left_after = S.left reader.new;
+      held = W.held writer.old;
+      held_after = W.held writer.new;
+    }) }
     ensures reads { ReadsTallied result.end (S.tally reader.old) (S.tally reader.new) }
     ensures writes { WritesTallied result.end result.lines (W.tally writer.old) (W.tally writer.new) }
 {

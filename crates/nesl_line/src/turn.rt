@@ -1,9 +1,10 @@
 //! One line of a batch, as a house hears it.
-ghost use Rattle.std.specs.Prelude.{◌≡◌, ℕ, ◌≤◌, [], IfOk, IfSome, IfNone, false, length};
+ghost use Rattle.std.specs.Prelude.{◌≡◌, ◌||◌, ℕ, ◌≤◌, [], IfOk, IfSome, IfNone, false, length};
 ghost use Rattle.std.specs.Vec.{vec_capacity};
-ghost use Rattle.nesl_line.specs.Conversation.{IsUserLine, NamesNobody, is_user_name_byte, HouseConversation};
+ghost use Rattle.nesl_house.specs.Roster.{is_digit, is_small_letter};
+ghost use Rattle.nesl_line.specs.Conversation.{IsUserLine, NamesNobody};
 ghost use Rattle.nesl_line.specs.Told.{text_told};
-ghost use Rattle.nesl_line.specs.Steps.{chosen, NamesFit, TurnsHouse};
+ghost use Rattle.nesl_line.specs.Steps.{chosen, NamesFit, TalkedTo, TurnsHouse};
 
 use crate::hearer::{Hearer, Told};
 use nesl_house::house::House;
@@ -72,8 +73,7 @@ impl<'m, M: Manner> Chooser<'m, M> {
 impl<M: Manner> Hearer for Chooser<'_, M> {
     type World = House;
 
-    ghost heard = { λ first start now house lines texts. HouseConversation start lines texts
-        (chosen now.who.items) house };
+    ghost heard = { λ first start now house lines texts. TalkedTo start lines texts (chosen now.who.items) house };
 
     ghost over = { λ chooser. false };
 
@@ -120,7 +120,7 @@ pub fn user_named(line: &[u8]) -> Option<&[u8]>
 }
 
 fn is_name_byte(b: u8) -> bool
-    ensures { result ≡ is_user_name_byte b }
+    ensures { result ≡ (is_small_letter b || is_digit b) }
 {
     b'a' <= b && b <= b'z' || b'0' <= b && b <= b'9'
 }

@@ -6,7 +6,6 @@ use Rattle.nesl_session_meaning.specs.State.{Log}
 use Rattle.nesl_session_meaning.specs.Response.{Reply}
 use Rattle.nesl_session_meaning.specs.Solo.{Responds}
 use Rattle.nesl_line.specs.declared.exchange.End.{End}
-use Rattle.nesl_line.specs.Exchange.{Hearing, IsExchange}
 use Rattle.nesl_prompt.specs.declared.style.Style.{Style}
 use Rattle.nesl_prompt.specs.Points.{Point, LineAndReply, Replied, WasGiven, Obeyed, joined, is_plain}
 use Rattle.nesl_reply.specs.declared.fault.Fault.{Fault}
@@ -141,20 +140,6 @@ conversed_from a b form log point lines texts e f c =
     let P : Style → Type 0 = λ x. Conversed (is_plain x) (record { form = []; log = log }) lines texts point in
     let Q : List ℕ → Type 0 = λ x. Conversed (is_plain a) (record { form = x; log = log }) lines texts point in
     subst P e (subst Q f c)
-
--- an exchange of which more is known is one of which less is
-pub exchange_as : (Heard Other : Hearing) (over : Bool) (end : End) (count : ℕ) (left left' held held' : Option (List ℕ)) → ((lines texts : List (List ℕ)) → Heard lines texts → Other lines texts) → IsExchange Heard over end count left left' held held' → IsExchange Other over end count left left' held held'
-exchange_as Heard Other over end count left left' held held' f e = record {
-  read = e.read;
-  lines = e.lines;
-  texts = e.texts;
-  written = e.written;
-  consumed = e.consumed;
-  appended = e.appended;
-  heard = f e.lines e.texts e.heard;
-  ended = e.ended;
-  counted = e.counted;
-}
 
 pub rests_in : (a b : Style) (end : End) (point : Point) (log : Log) (held held' : Option (List ℕ)) (well : Bool) → a ≡ b → Rests (is_plain a) end point log held held' well → Rests (is_plain b) end point log held held' well
 rests_in a b end point log held held' well e r = let P : Style → Type 0 = λ x. Rests (is_plain x) end point log held held' well in subst P e r

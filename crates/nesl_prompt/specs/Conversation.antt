@@ -9,7 +9,7 @@ use Rattle.nesl_session_meaning.specs.Response.{Reply, no_memory}
 use Rattle.nesl_session_meaning.specs.Solo.{Responds}
 use Rattle.nesl_line.specs.declared.exchange.End.{End}
 use Rattle.nesl_line.specs.declared.exchange.End.TheVariants.{Input, WriteFault}
-use Rattle.nesl_line.specs.Exchange.{IsExchange}
+use Rattle.nesl_line.specs.Exchange.{IsExchange, Streams}
 use Rattle.nesl_line.specs.Steps.{Sent}
 use Rattle.nesl_prompt.specs.Points.{Point, Obeyed, joined}
 use Rattle.nesl_prompt.specs.Words.{IsBlank, is_own, is_part, gives_lines}
@@ -93,18 +93,17 @@ pub data Rests
       → (plain ≡ true → tail ≡ []) → Responds point.log point.form reply log → IsReplyText plain reply text
       → Sent mid held' text well → Rests plain end point log held held' well
 
--- A conversation of `count` lines that ended in this way. The reader had `left` before and has `left'` after. The
--- writer held `held` and then `held'`, and the session was `log` and then `log'`. A greeting comes before the first
--- line.
-pub data IsPrompt
-    (plain : Bool) (end : End) (count : ℕ) (left left' held held' : Option (List ℕ)) (log log' : Log) : Type 0 where
+-- A conversation of `count` lines over these streams that ended in this way. The session was `log` and then `log'`. A
+-- greeting comes before the first line.
+pub data IsPrompt (plain : Bool) (log log' : Log) (end : End) (count : ℕ) (streams : Streams) : Type 0 where
   unheard :
-      (greeting : List ℕ) → end ≡ WriteFault → count ≡ 0 → left' ≡ left → log' ≡ log → Sent held held' greeting false
-      → (plain ≡ true → greeting ≡ []) → IsPrompt plain end count left left' held held' log log'
+      (greeting : List ℕ) → end ≡ WriteFault → count ≡ 0 → streams.left_after ≡ streams.left → log' ≡ log
+      → Sent streams.held streams.held_after greeting false → (plain ≡ true → greeting ≡ [])
+      → IsPrompt plain log log' end count streams
   heard :
       (greeting : List ℕ) (begun sent : Option (List ℕ)) (over : Bool) (ended : End) (point : Point) (well : Bool)
-      → Sent held begun greeting true → (plain ≡ true → greeting ≡ [])
+      → Sent streams.held begun greeting true → (plain ≡ true → greeting ≡ [])
       → IsExchange (λ lines texts. Conversed plain (record { form = []; log = log }) lines texts point) over ended count
-      left left' begun sent
-      → Rests plain ended point log' sent held' well → end ≡ (if well then ended else WriteFault)
-      → IsPrompt plain end count left left' held held' log log'
+      (record streams { held = begun; held_after = sent })
+      → Rests plain ended point log' sent streams.held_after well → end ≡ (if well then ended else WriteFault)
+      → IsPrompt plain log log' end count streams

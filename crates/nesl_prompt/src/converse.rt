@@ -25,8 +25,12 @@ pub fn converse<S: Source, W: Sink, F: Shelf>(
     shelf: &F,
     style: Style,
 ) -> Ran
-    ensures { IsPrompt (is_plain style) result.end result.lines (S.left reader.old) (S.left reader.new)
-        (W.held writer.old) (W.held writer.new) session.old session.new }
+    ensures { IsPrompt (is_plain style) session.old session.new result.end result.lines (record {
+      left = S.left reader.old;
+      left_after = S.left reader.new;
+      held = W.held writer.old;
+      held_after = W.held writer.new;
+    }) }
 {
     if !say(writer, greeting(style)) {
         return Ran {

@@ -6,7 +6,7 @@ use Rattle.nesl_line.proofs.Visits.{seated_first, turned_away, names_none, names
 use Rattle.nesl_line.proofs.guest.greet.Goals as goal
 
 pub returns-in_default : goal.returns-in_default
-returns-in_default g c = turned_away c.args.table.now.roster c.args.line.now _ c.no_user.result c.no_user.ensures (stranger (λ place n. c.in_default.ensures.none n.user n.named))
+returns-in_default g c = turned_away c.args.table.now.roster c.args.table.now.limits c.args.line.now _ c.no_user.result c.no_user.ensures (stranger c.args.line.now (λ place n. c.in_default.ensures.none n.user n.named))
 
 pub returns-in-Ok : goal.returns-in-Ok
 returns-in-Ok g c =
@@ -15,10 +15,10 @@ returns-in-Ok g c =
 
 pub returns-in-Err-NoUser : goal.returns-in-Err-NoUser
 returns-in-Err-NoUser g c =
-    turned_away c.args.table.now.roster c.args.line.now _ c.no_user-in-Err-NoUser.result c.no_user-in-Err-NoUser.ensures
-    (stranger (names_none c.args.table.now.roster c.args.line.now c.in-Some.user.now c.in-Some.ensures.some (c.in-Err-NoUser.ensures.no_user.0 (λ i. Err (c.in-Err-NoUser.field-0-is i)))))
+    turned_away c.args.table.now.roster c.args.table.now.limits c.args.line.now _ c.no_user-in-Err-NoUser.result c.no_user-in-Err-NoUser.ensures
+    (stranger c.args.line.now (names_none c.args.table.now.roster c.args.line.now c.in-Some.user.now c.in-Some.ensures.some (c.in-Err-NoUser.ensures.no_user.0 (λ i. Err (c.in-Err-NoUser.field-0-is i)))))
 
 pub returns-in-Err-Busy : goal.returns-in-Err-Busy
 returns-in-Err-Busy g c =
     let named = names_place c.args.table.now.roster c.args.line.now c.in-Some.user.now c.in-Some.ensures.some (λ none. let no' = c.in-Err-Busy.ensures.no_user.1 none in cc) in
-    turned_away c.args.table.now.roster c.args.line.now _ c.busy.result c.busy.ensures (away named.0 named.1)
+    turned_away c.args.table.now.roster c.args.table.now.limits c.args.line.now _ c.busy.result c.busy.ensures (away c.args.line.now named.0 named.1)

@@ -1,9 +1,8 @@
-use Rattle.std.proofs.Common.{◌-◌, ◌<◌, ◌≤◌, List, [], ℕ, length, take, drop, arith, subst, append-nil, ◌∙◌, ap}
+use Rattle.std.proofs.Common.{◌-◌, ◌<◌, ◌≤◌, List, [], ℕ, length, take, drop, arith, subst, append-nil, ap}
 use Rattle.std.proofs.lemmas.List.{length-drop}
 use Rattle.std.specs.Io.KnownBytes.{Appends}
 use Rattle.nesl_line.proofs.Bytes.{sent_some, sent_more, appends_keep, appends_then, rest_whole}
-use Rattle.nesl_line.specs.Tally.{written_by}
-use Rattle.nesl_line.proofs.Tallies.{failed, took_some, took_none, blamed_after, written_none, written_more}
+use Rattle.nesl_line.proofs.Tallies.{failed, took_some, took_none, blamed_after, written_more}
 use Rattle.nesl_line.proofs.tell.send.Goals as goal
 
 pub loop-at-preserved : goal.loop-at-preserved

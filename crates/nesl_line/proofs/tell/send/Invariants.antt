@@ -1,6 +1,6 @@
 use Rattle.std.proofs.Common.{◌≡◌, ◌≤◌, ◌-◌, length, take}
 use Rattle.std.specs.Io.KnownBytes.{Appends}
-use Rattle.nesl_line.specs.Tally.{written_by}
+use Rattle.nesl_line.specs.Steps.{written_by}
 use Rattle.nesl_line.proofs.tell.send.Given as goal
 
 abbrev pub invariant-loop-at : goal.invariant-loop-at
