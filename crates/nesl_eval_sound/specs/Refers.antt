@@ -28,10 +28,6 @@ abbrev mutual
   refers y hidden (node s k) = refers_in y hidden k
 
   pub refers_in : Name → Bool → Shape → Bool
-  refers_in y hidden (trees.number n) = false
-  refers_in y hidden (trees.truth b) = false
-  refers_in y hidden (trees.character c) = false
-  refers_in y hidden (trees.text bytes) = false
   refers_in y hidden (trees.variable x) = bytes_eq y x && not hidden
   refers_in y hidden (trees.call f a) = bytes_eq y f || refers y hidden a
   refers_in y hidden (trees.pair a b) = refers y hidden a || refers y hidden b
@@ -40,14 +36,13 @@ abbrev mutual
   refers_in y hidden (trees.index a i) = refers y hidden a || refers y hidden i
   refers_in y hidden (trees.choice a b c) = refers y hidden a || (refers y hidden b || refers y hidden c)
   refers_in y hidden (trees.sequence es) = any_refers y hidden es
-  refers_in y hidden (trees.empty a) = false
   refers_in y hidden (trees.range a b) = refers y hidden a || refers y hidden b
   refers_in y hidden (trees.strided_range a b c) = refers y hidden a || (refers y hidden b || refers y hidden c)
   refers_in y hidden (trees.let_in bs e) = bindings_refer y hidden bs || refers y (hidden || some_binds y bs) e
   refers_in y hidden (trees.each e bs) = drawn_refers y hidden bs || refers y (hidden || some_binds y bs) e
   refers_in y hidden (trees.filtered_each e bs f) =
       drawn_refers y hidden bs || (refers y (hidden || some_binds y bs) e || refers y (hidden || some_binds y bs) f)
-  refers_in y hidden trees.element = false
+  refers_in y hidden _ = false
 
   pub any_refers : Name → Bool → Trees → Bool
   any_refers y hidden none = false

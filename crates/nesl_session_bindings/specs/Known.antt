@@ -20,8 +20,7 @@ meaning_in (b ∷ bs) x = if bytes_eq x b.name then Some b.meaning else meaning_
 -- a variable's type
 abbrev pub type_of : Meaning → Option Term
 type_of (variable t v) = Some t
-type_of (function f p e) = None
-type_of (datatype tag t) = None
+type_of _ = None
 
 -- what a name before `(` refers to: a function, or a datatype that makes a record
 abbrev pub referent_of : Meaning → Option Referent
@@ -31,9 +30,8 @@ referent_of (datatype tag t) = Some (names.record_of tag t)
 
 -- a datatype's tag, and what its records hold
 abbrev pub record_of : Meaning → Option (ℕ × Term)
-record_of (variable t v) = None
-record_of (function f p e) = None
 record_of (datatype tag t) = Some (tag, t)
+record_of _ = None
 
 -- what names refer to, for typing
 abbrev pub known : List Binding → Option Name → Names
@@ -52,18 +50,16 @@ environment bs = map (λ b. (b.name, top_of b.meaning)) bs
 
 -- the datatype with a tag
 abbrev pub has_tag : ℕ → Meaning → Bool
-has_tag tag (variable t v) = false
-has_tag tag (function f p e) = false
 has_tag tag (datatype n t) = n == tag
+has_tag tag _ = false
 
 abbrev pub datatype_with : ℕ → List Binding → Option Binding
 datatype_with tag bs = find (λ b. has_tag tag b.meaning) bs
 
 -- what records hold
 abbrev pub content_of : Meaning → Option Term
-content_of (variable t v) = None
-content_of (function f p e) = None
 content_of (datatype n t) = Some t
+content_of _ = None
 
 -- the names of datatypes and what they hold, for replies
 abbrev pub datatypes_of : List Binding → DatatypesByTag
@@ -74,9 +70,8 @@ datatypes_of bs = record {
 
 -- how many datatypes there are, which is the tag of the next
 abbrev pub is_a_datatype : Meaning → Bool
-is_a_datatype (variable t v) = false
-is_a_datatype (function f p e) = false
 is_a_datatype (datatype n t) = true
+is_a_datatype _ = false
 
 abbrev pub datatype_count : List Binding → ℕ
 datatype_count [] = 0

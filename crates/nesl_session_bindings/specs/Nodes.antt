@@ -9,11 +9,6 @@ abbrev mutual
   expression_nodes (node s k) = 1 + nodes_below k
 
   pub nodes_below : Shape → ℕ
-  nodes_below (trees.number n) = 0
-  nodes_below (trees.truth b) = 0
-  nodes_below (trees.character c) = 0
-  nodes_below (trees.text bytes) = 0
-  nodes_below (trees.variable x) = 0
   nodes_below (trees.call f a) = expression_nodes a
   nodes_below (trees.pair a b) = expression_nodes a + expression_nodes b
   nodes_below (trees.prefix_of o a) = expression_nodes a
@@ -21,13 +16,12 @@ abbrev mutual
   nodes_below (trees.index a i) = expression_nodes a + expression_nodes i
   nodes_below (trees.choice a b c) = expression_nodes a + (expression_nodes b + expression_nodes c)
   nodes_below (trees.sequence es) = nodes_of_all es
-  nodes_below (trees.empty a) = 0
   nodes_below (trees.range a b) = expression_nodes a + expression_nodes b
   nodes_below (trees.strided_range a b c) = expression_nodes a + (expression_nodes b + expression_nodes c)
   nodes_below (trees.let_in bs e) = nodes_bound bs + expression_nodes e
   nodes_below (trees.each e bs) = expression_nodes e + nodes_bound bs
   nodes_below (trees.filtered_each e bs f) = expression_nodes e + (nodes_bound bs + expression_nodes f)
-  nodes_below trees.element = 0
+  nodes_below _ = 0
 
   pub nodes_of_all : Trees → ℕ
   nodes_of_all none = 0

@@ -43,8 +43,7 @@ is_in_use (Some m) k = false
 -- `it` can only be a variable
 abbrev pub is_no_variable : Definition → Bool
 is_no_variable (a_variable t) = false
-is_no_variable (a_function f) = true
-is_no_variable a_datatype = true
+is_no_variable _ = true
 
 abbrev pub is_taken : List Binding → Name → Definition → Bool
 is_taken bs x k = is_some (builtin_named x) || is_in_use (meaning_in bs x) k || (bytes_eq x it && is_no_variable k)
