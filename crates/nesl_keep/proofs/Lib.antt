@@ -1,0 +1,4 @@
+mod Contents
+mod Crash
+pub mod Lines
+pub mod Moments

@@ -1,0 +1,117 @@
+//! The folder of the users' files, which one process has at a time.
+
+use crate::file::{Place, UserFile};
+use crate::system::{make_file, open_file, open_folder, sync_if_readable};
+use nesl_keep::device::{DeviceError, Folder, Opened};
+use std::alloc::{AllocError, Global};
+use std::fs::{File, TryLockError};
+use std::io::{self, ErrorKind};
+use std::rt::Files as System;
+
+/// The most letters and digits of a user's name.
+const MOST_LETTERS: usize = 16;
+
+/// Why a folder can't be used.
+#[derive(Clone, Copy, Debug, PartialEq, Eq)]
+pub enum FolderFault {
+    /// Memory ran out.
+    Memory,
+    /// Another process has it.
+    Taken,
+    /// Something else has its name.
+    NotAFolder,
+    /// The disk failed. The number is that of the system's error, if there was one.
+    Failed(Option<i32>),
+}
+
+impl From<AllocError> for FolderFault {
+    fn from(_: AllocError) -> Self {
+        FolderFault::Memory
+    }
+}
+
+impl From<io::Error> for FolderFault {
+    fn from(error: io::Error) -> Self {
+        match error.kind() {
+            ErrorKind::OutOfMemory => FolderFault::Memory,
+            ErrorKind::NotADirectory => FolderFault::NotAFolder,
+            _ => FolderFault::Failed(error.raw_os_error()),
+        }
+    }
+}
+
+/// The files of users in one folder, `FOLDER/NAME` for each. No other process has the folder for as long as this or a
+/// file of it lives. Threads may share it.
+#[derive(Drop)]
+pub struct Files<'x, R> {
+    rt: &'x R,
+    path: &'x str,
+    folder: File,
+    lock: File,
+}
+
+impl<'x, R: System<File = File>> Files<'x, R> {
+    /// Takes a folder, which is made if it isn't there, by a lock on the file `FOLDER/.lock`. The lock ends with the
+    /// process, however that ends.
+    pub fn lock(rt: &'x R, alloc: Global, path: &'x str) -> Result<Self, FolderFault> {
+        let folder = open_folder(rt, path)?;
+        let lock = open_lock(rt, format!(in alloc; "{path}/.lock")?.as_str())?;
+        match lock.try_lock() {
+            Ok(()) => {}
+            Err(TryLockError::WouldBlock) => return Err(FolderFault::Taken),
+            Err(TryLockError::Error(error)) => return Err(FolderFault::from(error)),
+        }
+        // The folder's own name must outlast a crash too. Whoever may not read the folder above didn't make this one.
+        sync_if_readable(rt, format!(in alloc; "{path}/..")?.as_str())?;
+        Ok(Files {
+            rt,
+            path,
+            folder,
+            lock,
+        })
+    }
+}
+
+fn open_lock<R: System<File = File>>(rt: &R, path: &str) -> io::Result<File> {
+    match make_file(rt, path) {
+        Err(error) if error.kind() == ErrorKind::AlreadyExists => open_file(rt, path),
+        made => made,
+    }
+}
+
+impl<'x, R: System<File = File>> Folder for Files<'x, R> {
+    type Device = UserFile<'x, R>;
+
+    /// A name that isn't 1 to 16 small letters and digits is refused as `Failed(None)`, and so is what is no regular
+    /// file.
+    fn open(&self, alloc: Global, user: &[u8]) -> Result<Opened<UserFile<'x, R>>, DeviceError> {
+        let Some(name) = read_name(user) else {
+            return Err(DeviceError::Failed(None));
+        };
+        let path = format!(in alloc; "{}/{name}", self.path)?;
+        let beside = format!(in alloc; "{}/{name}.new", self.path)?;
+        let place = Place {
+            path,
+            beside,
+            folder: self.folder.try_clone().map_err(fault_of)?,
+            lock: self.lock.try_clone().map_err(fault_of)?,
+        };
+        UserFile::open(self.rt, alloc, place).map_err(fault_of)
+    }
+}
+
+// Returns the name of a user. It has small letters and digits alone, so that no path leaves the folder.
+fn read_name(user: &[u8]) -> Option<&str> {
+    let is_plain = |b: &u8| b.is_ascii_lowercase() || b.is_ascii_digit();
+    if user.is_empty() || user.len() > MOST_LETTERS || !user.iter().all(is_plain) {
+        return None;
+    }
+    std::str::from_utf8(user).ok()
+}
+
+fn fault_of(error: io::Error) -> DeviceError {
+    match error.kind() {
+        ErrorKind::OutOfMemory => DeviceError::Memory,
+        _ => DeviceError::Failed(error.raw_os_error()),
+    }
+}

@@ -1,0 +1,118 @@
+//! Calls of the system on files and folders. What stands at a name may be anything: a pipe, a link or a folder.
+
+use std::alloc::Global;
+use std::fs::{self, DirBuilder, File, Metadata, OpenOptions};
+use std::io::{self, ErrorKind, Read};
+use std::os::fd::AsRawFd;
+use std::os::unix::fs::{DirBuilderExt, FileExt, MetadataExt, OpenOptionsExt};
+use std::rt::Files;
+
+/// The mode of a file that only its owner may open.
+const PRIVATE_FILE: u32 = 0o600;
+
+/// The mode of a folder that only its owner may open.
+const PRIVATE_FOLDER: u32 = 0o700;
+
+/// The system's error for a file that is too large.
+const TOO_LARGE: i32 = 27;
+
+/// Opens a folder, which is made if nothing has its name. Only a folder is opened, since a pipe could block.
+pub(crate) fn open_folder<R: Files<File = File>>(rt: &R, path: &str) -> io::Result<File> {
+    match DirBuilder::new().mode(PRIVATE_FOLDER).create(rt, path) {
+        Err(error) if error.kind() != ErrorKind::AlreadyExists => return Err(error),
+        _ => {}
+    }
+    if !fs::metadata(rt, path)?.is_dir() {
+        return Err(ErrorKind::NotADirectory.into());
+    }
+    let folder = fs::open(rt, path)?;
+    if folder.metadata()?.is_dir() {
+        Ok(folder)
+    } else {
+        Err(ErrorKind::NotADirectory.into())
+    }
+}
+
+/// Brings the names in a folder to the disk, unless this process may not read it.
+pub(crate) fn sync_if_readable<R: Files<File = File>>(rt: &R, path: &str) -> io::Result<()> {
+    match fs::open(rt, path) {
+        Ok(folder) => folder.sync_all(),
+        Err(error) if error.kind() == ErrorKind::PermissionDenied => Ok(()),
+        Err(error) => Err(error),
+    }
+}
+
+/// Makes a file for reading and writing. Fails if anything has its name.
+pub(crate) fn make_file<R: Files<File = File>>(rt: &R, path: &str) -> io::Result<File> {
+    OpenOptions::new()
+        .read(true)
+        .write(true)
+        .create_new(true)
+        .mode(PRIVATE_FILE)
+        .open(rt, path)
+}
+
+/// Opens a regular file for reading and writing. Nothing else is opened, since a pipe could block, and a link could
+/// lead out of the folder. The opened file must be the one that was found, since another may have taken its place.
+pub(crate) fn open_file<R: Files<File = File>>(rt: &R, path: &str) -> io::Result<File> {
+    let found = fs::symlink_metadata(rt, path)?;
+    require_regular(&found)?;
+    let file = OpenOptions::new().read(true).write(true).open(rt, path)?;
+    let opened = file.metadata()?;
+    if opened.dev() == found.dev() && opened.ino() == found.ino() {
+        Ok(file)
+    } else {
+        Err(ErrorKind::Unsupported.into())
+    }
+}
+
+/// Removes a regular file, if there is one.
+pub(crate) fn remove_left_over<R: Files<File = File>>(rt: &R, path: &str) -> io::Result<()> {
+    match fs::symlink_metadata(rt, path) {
+        Ok(found) => {
+            require_regular(&found)?;
+            fs::remove_file(rt, path)
+        }
+        Err(error) if error.kind() == ErrorKind::NotFound => Ok(()),
+        Err(error) => Err(error),
+    }
+}
+
+fn require_regular(found: &Metadata) -> io::Result<()> {
+    if found.is_file() {
+        Ok(())
+    } else {
+        Err(ErrorKind::Unsupported.into())
+    }
+}
+
+/// Writes the bytes into a new file, and brings them to the disk.
+pub(crate) fn fill(file: &File, bytes: &[u8]) -> io::Result<()> {
+    file.write_all_at(bytes, 0)?;
+    file.sync_all()
+}
+
+/// Brings a file and its name to the disk, and then reads it. The system's copies of its pages are dropped between: a
+/// sync that failed in an earlier process may have left them other than the disk has them. A file of more than `most`
+/// bytes is refused.
+pub(crate) fn read_settled(
+    alloc: Global,
+    file: &File,
+    folder: &File,
+    most: usize,
+) -> io::Result<Vec<u8>> {
+    file.sync_all()?;
+    folder.sync_all()?;
+    let advised = libc::posix_fadvise(file.as_raw_fd(), 0, 0, libc::POSIX_FADV_DONTNEED);
+    if advised != 0 {
+        return Err(io::Error::from_raw_os_error(advised));
+    }
+    let mut bytes = Vec::new(alloc);
+    let _ = file
+        .take((most as u64).saturating_add(1))
+        .read_to_end(&mut bytes)?;
+    if bytes.len() > most {
+        return Err(io::Error::from_raw_os_error(TOO_LARGE));
+    }
+    Ok(bytes)
+}
