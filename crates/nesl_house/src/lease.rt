@@ -1,6 +1,6 @@
 //! A seat that is taken out of the table.
 ghost use Rattle.std.specs.Prelude.{◌≡◌, ◌+◌};
-ghost use Rattle.nesl_session_meaning.specs.State.{recorded_lines};
+ghost use Rattle.nesl_session_meaning.specs.State.{empty_log, recorded_lines};
 ghost use Rattle.nesl_session_meaning.specs.Solo.{Responds};
 
 use crate::seat::Seat;
@@ -36,6 +36,12 @@ impl Model for Lease {
 pub struct Receipt {
     pub place: usize,
     pub recorded: u64,
+}
+
+/// A lease of a session that was kept elsewhere, and a receipt for the lines that it had recorded there.
+pub struct Resumed {
+    pub lease: Lease,
+    pub restored: Receipt,
 }
 
 impl Lease {
@@ -75,6 +81,26 @@ impl Lease {
     {
         recorded_lines_grow();
         self.seat.line_split(rt, alloc, text, helpers, gate)
+    }
+
+    /// Replaces an empty session by one that was kept elsewhere. The table counts its lines from now on. The receipt is
+    /// for them.
+    pub fn resume(self, session: Session) -> Resumed
+        requires { self.seat.session ≡ empty_log session.limits }
+        ensures lease { result.lease ≡ record {
+          seat = record { place = self.seat.place; session = session };
+          counted = recorded_lines session;
+        } }
+        ensures place { result.restored.place ≡ self.seat.place }
+        ensures restored { result.restored.recorded + self.counted ≡ recorded_lines session }
+    {
+        let Lease { seat, counted: _ } = self;
+        let restored = Receipt {
+            place: seat.place(),
+            recorded: session.recorded_lines(),
+        };
+        let lease = Lease::new(seat.with_session(session));
+        Resumed { lease, restored }
     }
 
     /// The seat, and the receipt for the lines that its session has recorded since the seat was taken out.

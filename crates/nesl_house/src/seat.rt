@@ -12,7 +12,8 @@ use std::marker::Model;
 use std::thread::Threads;
 
 /// A place of a table, and the session that answers lines there. A session never changes its seat: the seat is made
-/// with an empty session, and lends it for one line at a time.
+/// with an empty session, and lends it for one line at a time. Only a session that was kept elsewhere may replace it,
+/// while it is empty.
 pub struct Seat {
     place: usize,
     session: Session,
@@ -74,6 +75,14 @@ impl Seat {
         ensures place { self.new.place ≡ self.old.place }
     {
         self.session.line_split(rt, alloc, text, helpers, gate)
+    }
+
+    /// The same place with another session.
+    pub(crate) fn with_session(self, session: Session) -> Seat
+        ensures { result ≡ record { place = self.place; session = session } }
+    {
+        let Seat { place, session: _ } = self;
+        Seat { place, session }
     }
 
     /// The session, once its seat is no longer needed.

@@ -10,6 +10,6 @@ pub mod session;
 mod standing;
 
 pub use form::LEVELS;
-pub use line::LONGEST;
+pub use line::{LONGEST, MOST_RECORDED};
 pub use nesl_reply::{Fault, Stop};
 pub use nesl_session_meaning::{laws, limits};

@@ -23,7 +23,7 @@ use std::alloc::{AllocError, Allocator, Global};
 pub const LONGEST: usize = 65_536;
 
 /// The most lines that a session may have recorded once it is reset.
-const MOST_RECORDED: u64 = 72_057_594_037_927_936;
+pub const MOST_RECORDED: u64 = 72_057_594_037_927_936;
 
 /// Answers one line by a step. On `Err`, memory ran out and nothing has changed.
 pub fn step<A: Allocator, E: Evaluator<A>>(

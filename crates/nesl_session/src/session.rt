@@ -1,5 +1,5 @@
 //! One user's session.
-ghost use Rattle.std.specs.Prelude.{◌≡◌, [], IfOk, OnErr, map};
+ghost use Rattle.std.specs.Prelude.{◌≡◌, ◌≤◌, [], IfOk, OnErr, map};
 ghost use Rattle.nesl_syntax_tree.specs.Views.{tree_of};
 ghost use Rattle.nesl_eval_meaning.specs.Names.{outside};
 ghost use Rattle.nesl_eval_meaning.specs.Out.{within};
@@ -84,6 +84,7 @@ impl<'a> Iterator for Names<'a> {
 impl Session {
     ghost use Rattle.nesl_session.specs.Inside.{state_of, log_of, IsSound};
     ghost use Rattle.nesl_session.specs.Names.{names_left};
+    ghost use Rattle.nesl_session_meaning.specs.Step.{most_recorded};
 
     /// The empty session: nothing is bound or recorded, and all of its work is left.
     pub fn new(alloc: Global, limits: Limits) -> Result<Session, AllocError>
@@ -93,6 +94,17 @@ impl Session {
         Ok(Session {
             standing: Standing::opened(alloc, limits, limits.session_work, 0),
         })
+    }
+
+    /// A session as a reset leaves it: with this work left, and this number of recorded lines. Nothing is bound.
+    pub fn opened(alloc: Global, limits: Limits, base: u64, cleared: u64) -> Session
+        requires { cleared ≤ most_recorded }
+        ensures opened { result ≡ record { limits = limits; base = base; cleared = cleared; lines = [] } }
+        ensures replayed { (state : State) × Replays result state }
+    {
+        Session {
+            standing: Standing::opened(alloc, limits, base, cleared),
+        }
     }
 
     /// The limits that the session was given.

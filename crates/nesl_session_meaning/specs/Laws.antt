@@ -1,5 +1,5 @@
 -- Laws of a session.
-use Rattle.std.specs.Prelude.{◌≡◌, ◌++◌, ◌+◌, ℕ, List, if◌then◌else◌}
+use Rattle.std.specs.Prelude.{◌≡◌, ◌++◌, ◌+◌, ℕ, List, [], ◌∷◌, if◌then◌else◌}
 use Rattle.nesl_session_meaning.specs.declared.limits.Limits.{Limits}
 use Rattle.nesl_session_meaning.specs.State.{State, Log, recorded_lines}
 use Rattle.nesl_session_meaning.specs.Response.{Reply}
@@ -39,3 +39,17 @@ RecordedLinesGrow =
 abbrev pub LimitsStay : Type 0
 LimitsStay =
     (old new : Log) (line : List ℕ) (reply : Reply) → Responds old line reply new → new.limits ≡ old.limits
+
+-- What a line leaves of the lines that a session stores: they are as they were, or the line is stored after them, or it
+-- was a reset, after which none is stored.
+pub data Stores (old : Log) (line : List ℕ) : Log → Type 0 where
+  nothing : Stores old line old
+  the_line : Stores old line (record old { lines = old.lines ++ line ∷ [] })
+  reset :
+      (base : ℕ)
+      → Stores old line (record { limits = old.limits; base = base; cleared = recorded_lines old + 1; lines = [] })
+
+-- a line stores itself at most
+abbrev pub LinesAreStored : Type 0
+LinesAreStored =
+    (old new : Log) (line : List ℕ) (reply : Reply) → Responds old line reply new → Stores old line new

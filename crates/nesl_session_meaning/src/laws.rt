@@ -1,5 +1,6 @@
 //! What holds of every step.
-ghost use Rattle.nesl_session_meaning.specs.Laws.{GoesOn, LimitsStay, OneRun, OneState, OneStep, RecordedLinesGrow};
+ghost use Rattle.nesl_session_meaning.specs.Laws.{GoesOn, LimitsStay, LinesAreStored, OneRun, OneState, OneStep};
+ghost use Rattle.nesl_session_meaning.specs.Laws.{RecordedLinesGrow};
 ghost use Rattle.nesl_session_meaning.specs.Worked.{budget_of_none, comment, names_of_none, no_room_for_a_line};
 ghost use Rattle.nesl_session_meaning.specs.Worked.{no_token, no_tree, reset_after_a_sum, reset_at_the_limit};
 ghost use Rattle.nesl_session_meaning.specs.Worked.{small_sum, sum_in_two_parts, sum_over_the_work_of_a_line};
@@ -49,6 +50,11 @@ pub fn goes_on()
 pub fn recorded_lines_grow()
     ensures grow { RecordedLinesGrow }
     ensures limits { LimitsStay }
+{}
+
+/// A line stores nothing, or itself, or it is a reset, after which nothing is stored.
+pub fn lines_are_stored()
+    ensures { LinesAreStored }
 {}
 
 /// Lines of a session, worked by hand. By the definition of a step they get these replies, and leave this work.
