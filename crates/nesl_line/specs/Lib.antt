@@ -7,6 +7,7 @@ pub mod Exchange
 pub mod Batch
 pub mod Laws
 pub mod Guest
+pub mod Keeping
 pub mod Serve
 pub mod Visiting
 pub mod Steps

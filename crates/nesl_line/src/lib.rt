@@ -8,6 +8,7 @@ pub mod exchange;
 mod guest;
 pub mod hearer;
 pub mod hinted;
+pub mod keeper;
 pub mod laws;
 mod line;
 pub mod serve;
