@@ -6,6 +6,7 @@ mod devices;
 mod faults;
 mod heaps;
 mod interrupted;
+mod kept;
 mod lines;
 mod served;
 mod texts;

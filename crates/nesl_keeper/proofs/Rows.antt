@@ -1,0 +1,68 @@
+-- What a line does to the rows of a session.
+use Rattle.std.proofs.Common.{◌≡◌, ◌≢◌, ℕ, ◌-◌, ◌≤◌, List, [], ◌∷◌, ◌++◌, length, map, take, drop, get_or, Vec, refl, sym, ◌∙◌, ap, arith, length-append, append_assoc, append-nil}
+use Rattle.std.proofs.lemmas.List.{take_all}
+use Rattle.std.specs.declared.alloc.Global.{Global}
+use Rattle.nesl_session_meaning.specs.State.{Log, recorded_lines}
+use Rattle.nesl_session_meaning.specs.Laws.{Stores, nothing, the_line, reset}
+use Rattle.nesl_keeper.specs.Files.{head_text, rows_of, with_rows}
+
+pub rows_stored : (old new : Log) (line : List ℕ) → Stores old line new → new.cleared ≡ old.cleared → length new.lines ≢ length old.lines → rows_of old ++ line ∷ [] ≡ rows_of new
+rows_stored old new line nothing same other = absurd (other refl)
+rows_stored old new line the_line same other = refl
+rows_stored old new line (reset base) same other = absurd (omega (arith, same))
+
+pub rows_anew : (old new : Log) (line : List ℕ) → Stores old line new → new.cleared ≢ old.cleared → head_text new.base new.cleared ∷ [] ≡ rows_of new
+rows_anew old new line nothing other = absurd (other refl)
+rows_anew old new line the_line other = absurd (other refl)
+rows_anew old new line (reset base) other = refl
+
+pub rows_same : (old new : Log) (line : List ℕ) → Stores old line new → new.cleared ≡ old.cleared → length new.lines ≡ length old.lines → rows_of old ≡ rows_of new
+rows_same old new line nothing same count = refl
+rows_same old new line the_line same count = absurd (omega (arith, count, length-append old.lines (line ∷ [])))
+rows_same old new line (reset base) same count = absurd (omega (arith, same))
+
+-- a line was stored
+pub stored : (old new : Log) (line : List ℕ) → Stores old line new → new.cleared ≡ old.cleared → length new.lines ≢ length old.lines → new ≡ with_rows old (line ∷ [])
+stored old new line nothing same other = absurd (other refl)
+stored old new line the_line same other = refl
+stored old new line (reset base) same other = absurd (omega (arith, same))
+
+pub with_more : (log : Log) (lines more : List (List ℕ)) → with_rows (with_rows log lines) more ≡ with_rows log (lines ++ more)
+with_more log lines more = ap (λ (ls : List (List ℕ)). record log { lines = ls }) (append_assoc log.lines lines more)
+
+pub with_none : (log : Log) → with_rows log [] ≡ log
+with_none log = ap (λ (ls : List (List ℕ)). record log { lines = ls }) (append-nil log.lines)
+
+-- a session in which nothing is stored, and then these lines
+pub rows_of_all : (log : Log) (head : List ℕ) (lines : List (List ℕ)) → head_text log.base log.cleared ≡ head → log.lines ≡ [] → rows_of (with_rows log lines) ≡ head ∷ lines
+rows_of_all log head lines is none =
+    ap (λ (h : List ℕ). h ∷ (log.lines ++ lines)) is ∙ ap (λ (ls : List (List ℕ)). head ∷ (ls ++ lines)) none
+
+abbrev pub Text : Type 0
+Text = Vec ℕ Global
+
+abbrev pub texts : List Text → List (List ℕ)
+texts xs = map (λ (v : Text). v.items) xs
+
+-- all but the first
+abbrev pub rest_of : List Text → List Text
+rest_of xs = take (length xs - 1) (drop 1 xs)
+
+pub uncons : (x : Text) (xs : List Text) → 1 ≤ length xs → x ≡ get_or xs 0 x → xs ≡ x ∷ rest_of xs
+uncons x [] long is = absurd (omega (arith, long))
+uncons x (y ∷ ys) long is = ap (λ (l : List Text). y ∷ l) (sym (take_all (length (y ∷ ys) - 1) ys (omega arith))) ∙ ap (λ (z : Text). z ∷ take (length (y ∷ ys) - 1) ys) (sym is)
+
+-- one more line on both sides
+pub same_more : (left rest : List Text) (x y : Text) → 1 ≤ length left → 1 ≤ length rest → x ≡ get_or left 0 x → y ≡ get_or rest 0 y → x.items ≡ y.items → texts (rest_of left) ≡ texts (rest_of rest) → texts left ≡ texts rest
+same_more left rest x y long more first second one others =
+    ap texts (uncons x left long first)
+    ∙ ap (λ (l : List ℕ). l ∷ texts (rest_of left)) one ∙ ap (λ (ls : List (List ℕ)). y.items ∷ ls) others
+    ∙ sym (ap texts (uncons y rest more second))
+
+-- a line that stored nothing left the rows as they were
+pub kept_same : (old new : Log) (line : List ℕ) (rows : List (List ℕ)) → rows ≡ rows_of old → Stores old line new → new.cleared ≡ old.cleared → length new.lines ≡ length old.lines → rows ≡ rows_of new
+kept_same old new line rows is stores same count = is ∙ rows_same old new line stores same count
+
+-- a line was stored and added to the rows
+pub kept_more : (old new : Log) (line : List ℕ) (rows added : List (List ℕ)) → added ≡ rows ++ line ∷ [] → rows ≡ rows_of old → Stores old line new → new.cleared ≡ old.cleared → length new.lines ≢ length old.lines → added ≡ rows_of new
+kept_more old new line rows added more is stores same other = more ∙ ap (λ (ls : List (List ℕ)). ls ++ line ∷ []) is ∙ rows_stored old new line stores same other
