@@ -16,7 +16,8 @@ KIT = "std"
 # The calls whose clauses are the claim: a function, one of a type, or a type or trait with all of its calls.
 CLAIM = (
     "answer_text", "House::new", "House::users", "House::run", "House::run_with", "Answer::bytes", "own_lines_decide",
-    "batch", "Source", "Sink", "serve", "Table",
+    "batch", "Source", "Sink", "serve", "Table", "serve_and_keep", "Keeper",
+    "FileKeeper",
 )
 
 # The sections in reading order, each with its files. Where two files have one name, a definition follows it.
@@ -37,6 +38,7 @@ SECTIONS = (
     ("Scripts of many users", "Script Runs Roster Said Laws"),
     ("Conversations", "Lines.WholeLines Conversation Exchange Tally Batch"),
     ("The table and its leases", "Register Table.IsClosed Guest Serve"),
+    ("Sessions that are kept", "Keeping Scroll Device Files"),
 )
 
 WORD = re.compile(r"[^\W\d]\w*'*(?:-\w+)*")
@@ -260,7 +262,8 @@ def head(line):
 
 
 def calls(crate):
-    """The public calls of a crate, and what its public types are to callers (`Value` and `view`)."""
+    """The public calls of a crate, what its public types are to callers (`Value` and `view`), and what its keepers keep
+    and leave."""
     reached = public_items(crate)
     types = {name for only in reached.values() for name in only or ()}
     for file, only in reached.items():
@@ -303,7 +306,7 @@ def calls_in(crate, file, only, types):
             closed = position + clause.end() + len(inner)
         if call and line.rstrip().endswith(";") and position + len(line) > closed:
             call = None
-        model = re.match(r"\s*ghost (?:(Value|view)\s*=|(\w+):)\s*\{", line)
+        model = re.match(r"\s*ghost (?:(Value|view|keeps|leaves)\s*=|(\w+):)\s*\{", line)
         if model and block and block[0] in types:
             name = model.group(1) or model.group(2)
             inner = braced(text, position + model.end() - 1)
