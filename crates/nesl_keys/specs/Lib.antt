@@ -1,0 +1,6 @@
+pub mod Admission
+pub mod Entries
+pub mod Making
+pub mod Names
+pub mod Secrets
+pub mod Shown
