@@ -70,7 +70,8 @@ Admits came Address heard = IsNamed (ByAddress came) came.first heard
 
 -- why nobody is let in by a key
 pub data IsUnkeyed (listed : List Listed) (first : List ℕ) : TurnedAway → Type 0 where
-  no_key_line : ((name key : List ℕ) → IsKeyLine name key → first ≢ keyed_line name key) → IsUnkeyed listed first away.Line
+  no_key_line :
+      ((name key : List ℕ) → IsKeyLine name key → first ≢ keyed_line name key) → IsUnkeyed listed first away.Line
   wrong_key :
       (name key : List ℕ) → IsKeyLine name key → first ≡ keyed_line name key → ¬ Opens listed name key
       → IsUnkeyed listed first away.Key

@@ -55,3 +55,10 @@ pub record IsMade (page : List ℕ) (newcomers : List Newcomer) (told file : Lis
   pub listed : List Listed
   pub reads : IsFile file listed
   pub opens : AllOpen listed newcomers
+
+-- The line tells the user their key. The file is a file of keys, and in it the user has this key.
+pub record IsRenewed (page : List ℕ) (newcomer : Newcomer) (told file : List ℕ) : Type 0 where
+  pub handed : told ≡ handout page (issue_of newcomer)
+  pub listed : List Listed
+  pub reads : IsFile file listed
+  pub opens : Opens listed newcomer.name.now (encode_lower newcomer.key)

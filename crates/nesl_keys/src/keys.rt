@@ -89,8 +89,8 @@ impl Keys {
     {
         let found = self.entry_of(name);
         let entry = found.unwrap_or(NOBODY);
-        let is_same = is_same_text(&digest_text(entry.salt, key), entry.digest);
-        found.is_some() && is_same
+        let has_digest = is_same_text(&digest_text(entry.salt, key), entry.digest);
+        found.is_some() && has_digest
     }
 
     /// Returns the entry of a user.

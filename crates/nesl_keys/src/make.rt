@@ -1,11 +1,11 @@
 //! New keys: the file that lists them, and what each user gets.
 ghost use Rattle.std.specs.Prelude.{◌≡◌, ◌++◌, IfOk, IfNone, OnOk};
 ghost use Rattle.hex.specs.Hex.{encode_lower};
-ghost use Rattle.nesl_keys.specs.Making.{AllOpen, IsMade, handout, handouts, issue_of, keys_file, link};
+ghost use Rattle.nesl_keys.specs.Making.{AllOpen, IsMade, IsRenewed, handout, handouts, issue_of, keys_file, link};
 ghost use Rattle.nesl_keys.specs.Making.{listed_from, listing};
 ghost use Rattle.nesl_keys.specs.Shown.{listed_in};
 
-use crate::entry::{Entry, write_entry};
+use crate::entry::{Entry, entry_in, write_entry};
 use crate::keys::{Keys, KeysFault, VERSION};
 use crate::secret::{SECRET_BYTES, SECRET_DIGITS, digest_text};
 use std::alloc::{AllocError, Global};
@@ -40,6 +40,74 @@ pub fn make_keys(alloc: Global, page: &[u8], newcomers: &[Newcomer<'_>]) -> Resu
     }
     let handouts = make_handouts(alloc, page, newcomers)?;
     Ok(Made { handouts, file })
+}
+
+/// Why a key isn't renewed.
+#[derive(Clone, Copy, PartialEq, Eq, Debug)]
+pub enum RenewFault {
+    /// The file is no file of keys, or memory ran out.
+    Content(KeysFault),
+    /// It doesn't list the user.
+    Unlisted,
+}
+
+impl From<KeysFault> for RenewFault {
+    fn from(fault: KeysFault) -> RenewFault {
+        RenewFault::Content(fault)
+    }
+}
+
+impl From<AllocError> for RenewFault {
+    fn from(_error: AllocError) -> RenewFault {
+        RenewFault::Content(KeysFault::Memory)
+    }
+}
+
+/// Makes a file of keys in which a user who was listed has a new key, and what the user gets. All other lines stay.
+pub fn renew_key(
+    alloc: Global,
+    page: &[u8],
+    file: &[u8],
+    newcomer: &Newcomer<'_>,
+) -> Result<Made, RenewFault>
+    ensures { IfOk result (λ made. IsRenewed page.now newcomer.now made.handouts.items made.file.items) }
+{
+    let keys = Keys::read(alloc, file)?;
+    if keys.entry_of(newcomer.name).is_none() {
+        return Err(RenewFault::Unlisted);
+    }
+    let file = replace_line(alloc, file, newcomer)?;
+    let renewed = Keys::read(alloc, file.as_slice())?;
+    if !renewed.opens(newcomer.name, &newcomer.key_text()) {
+        return Err(RenewFault::Unlisted);
+    }
+    let mut handouts = Vec::new(alloc);
+    hand_out(&mut handouts, page, newcomer)?;
+    Ok(Made { handouts, file })
+}
+
+// Replaces the line that lists a user.
+fn replace_line(
+    alloc: Global,
+    file: &[u8],
+    newcomer: &Newcomer<'_>,
+) -> Result<Vec<u8>, AllocError> {
+    let mut text = Vec::new(alloc);
+    for line in file.split(|b| *b == b'\n') {
+        match entry_in(line) {
+            Some(entry) if entry.name == newcomer.name => list_newcomer(&mut text, newcomer)?,
+            _ => put_line(&mut text, line)?,
+        }
+    }
+    // What is after the last LF of the file has got one, too.
+    let _ = text.pop();
+    Ok(text)
+}
+
+fn put_line(text: &mut Vec<u8>, line: &[u8]) -> Result<(), AllocError> {
+    text.extend_from_slice(line)?;
+    text.push(b'\n')?;
+    Ok(())
 }
 
 impl Newcomer<'_> {
