@@ -1,0 +1,4 @@
+pub mod Edges
+pub mod Tiles
+pub mod LineLemmas
+pub mod FormLemmas
