@@ -1,6 +1,6 @@
 //! Cuts texts into forms, and compares the lines of the forms with those that are wanted. A case in `stdin` is a line
-//! `== NAME`, the text, a line `->`, and the wanted lines. The text is without its last line end. The program writes the
-//! cases that are missed, and how many there were.
+//! `== NAME`, the text, a line `->`, and the wanted lines. The text is without its last line end. The program writes
+//! the cases that are missed, and how many there were.
 #![tactic(auto)]
 
 use nesl_forms::line::line_of;
