@@ -51,6 +51,16 @@ def program_of(words, place=0):
     return os.path.abspath(words[place]) if len(words) > place else PAZKINDU
 
 
+def option(words, name, otherwise=None):
+    """The word after a name, which are both taken out."""
+    if name not in words[:-1]:
+        return otherwise
+    place = words.index(name)
+    _, value = words[place:place + 2]
+    del words[place:place + 2]
+    return value
+
+
 @functools.cache
 def loaded(name):
     """The script of that name, with its folder, as a module."""
