@@ -49,8 +49,8 @@ IsFailed Memory = ⊥
 IsFailed (Failed number) = ⊤
 IsFailed Full = ⊥
 
--- `Failed` is told only where the disk has failed since, and `Full` isn't told
+-- `Failed` is returned only where the disk has failed since, and `Full` never
 pub record HasCause {T : Type 0} (before now : ℕ) (result : Result T DeviceError) : Type 0 where
-  pub later : before ≤ now
+  pub counted : before ≤ now
   pub failed : IsErrAnd result IsFailed → before < now
   pub not_full : IsErrOf result Full → ⊥

@@ -36,14 +36,15 @@ pub fn make_file(alloc: Global, line: &[u8]) -> Result<Vec<u8>, AllocError>
     Ok(file)
 }
 
-/// Makes what is to be after a closed gate before that is opened: a line, an LF and the next closed gate.
-pub fn make_block(alloc: Global, line: &[u8]) -> Result<Vec<u8>, AllocError>
-    ensures { IfOk result (λ block. block.items ≡ line.now ++ 10 ∷ 46 ∷ []) }
+/// Has a block be what is to come after a closed gate before that is opened: a line, an LF and the next closed gate.
+pub fn fill_block(block: &mut Vec<u8>, line: &[u8]) -> Result<(), AllocError>
+    ensures { OnOk result (block.new.items ≡ line.now ++ 10 ∷ 46 ∷ []) }
 {
-    let mut block = line.to_vec(alloc)?;
+    block.clear();
+    block.extend_from_slice(line)?;
     block.push(b'\n')?;
     block.push(b'.')?;
-    Ok(block)
+    Ok(())
 }
 
 // Makes open blocks of these lines.
@@ -70,9 +71,9 @@ fn put_block(file: &mut Vec<u8>, line: &[u8]) -> Result<(), AllocError>
     Ok(())
 }
 
-// Reads the lines of the open blocks.
+/// Reads the lines of a file that a crash may have left.
 #[tactic(auto, using(crate::proofs::Lines::opened, crate::proofs::Lines::closed))]
-fn read_lines(alloc: Global, bytes: &[u8]) -> Result<Vec<Vec<u8>>, AllocError>
+pub fn read_lines(alloc: Global, bytes: &[u8]) -> Result<Vec<Vec<u8>>, AllocError>
     ensures { IfOk result (λ lines. map (λ v. v.items) lines.items ≡ kept bytes.now) }
 {
     let mut lines = Vec::new(alloc);

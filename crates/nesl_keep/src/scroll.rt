@@ -6,12 +6,16 @@ ghost use Rattle.nesl_keep.specs.Device.{Only, LeavesOnly, Torn, Holds, HasCause
 ghost use Rattle.nesl_keep.specs.Scroll.{kept, blocks, at_rest, device_of, IsLine, IsSettled, IsAtRest, IsOneOf};
 ghost use Rattle.nesl_keep.specs.Scroll.{IsBeforeOrAfter, IsBeforeOrAnew, HasSameLines};
 
-use crate::blocks::{Layout, lay, make_block, make_file};
+use crate::blocks::{Layout, fill_block, lay, make_file};
 use crate::device::{Device, DeviceError, Opened};
 use std::alloc::Global;
 
 // About as long as a file may be. No sum of lengths wraps below it.
 const MOST_BYTES: usize = 1 << 60;
+
+// The room that a block has from the start, in bytes: for a line of 65,536 bytes, an LF and a gate. So no such line
+// needs memory when it is added.
+const BLOCK_ROOM: usize = (1 << 16) + 2;
 
 /// A file of lines that is open.
 #[derive(Drop)]
@@ -19,6 +23,8 @@ pub struct Scroll<D: Device> {
     device: D,
     // Where the closed gate is.
     end: usize,
+    // What was written of the last line. Its room serves the next one.
+    block: Vec<u8>,
 }
 
 // Writes, and has it on the disk. A crash at any moment leaves the write torn, or the file as it was before, which is a
@@ -48,12 +54,16 @@ impl<D: Device> Scroll<D> {
     pub fn into_device(self) -> D
         ensures { result ≡ device_of self }
     {
-        let Scroll { device, end: _ } = self;
+        let Scroll {
+            device,
+            end: _,
+            block: _,
+        } = self;
         device
     }
 
     /// Adds a line. From `Ok` on each crash leaves a file that has it. At `Err`, open the file again.
-    pub fn push(&mut self, alloc: Global, line: &[u8]) -> Result<(), DeviceError>
+    pub fn push(&mut self, line: &[u8]) -> Result<(), DeviceError>
         requires settled { IsSettled D.seen D.may_leave self.old }
         requires line { IsLine line.now }
 
@@ -73,8 +83,8 @@ impl<D: Device> Scroll<D> {
         if self.end >= MOST_BYTES || line.len() >= MOST_BYTES - self.end {
             return Err(DeviceError::Full);
         }
-        let block = make_block(alloc, line)?;
-        write_through(&mut self.device, self.end + 1, &block)?;
+        fill_block(&mut self.block, line)?;
+        write_through(&mut self.device, self.end + 1, &self.block)?;
         write_through(&mut self.device, self.end, b">")?;
         self.end += line.len() + 2;
         Ok(())
@@ -145,19 +155,20 @@ pub fn recover<D: Device>(alloc: Global, opened: Opened<D>) -> Result<Recovered<
 {
     let Opened { mut device, bytes } = opened;
     match rewrite(alloc, &mut device, &bytes) {
-        Ok(Rewritten { lines, end }) => Ok(Recovered {
-            scroll: Scroll { device, end },
+        Ok(Rewritten { lines, end, block }) => Ok(Recovered {
+            scroll: Scroll { device, end, block },
             lines,
         }),
         Err(error) => Err(Unrecovered { device, error }),
     }
 }
 
-// The lines of a file, and where its closed gate is now.
+// The lines of a file, where its closed gate is now, and room for the next block.
 #[derive(Drop)]
 struct Rewritten {
     lines: Vec<Vec<u8>>,
     end: usize,
+    block: Vec<u8>,
 }
 
 // Puts the file at rest that has the same lines in the place of a file.
@@ -172,10 +183,11 @@ fn rewrite<D: Device>(alloc: Global, device: &mut D, bytes: &[u8]) -> Result<Rew
     ensures untouched { IsAtRest (D.seen device.old) → device.new ≡ device.old }
     ensures cause { HasCause (D.faults device.old) (D.faults device.new) result }
 {
+    let block = Vec::with_capacity(alloc, BLOCK_ROOM)?;
     let Layout { lines, file } = lay(alloc, bytes)?;
     put_anew(device, bytes, &file)?;
     let end = file.len() - 1;
-    Ok(Rewritten { lines, end })
+    Ok(Rewritten { lines, end, block })
 }
 
 // Has the file be these bytes. It isn't written if it is so already, which saves syncs and needs no room on the disk.

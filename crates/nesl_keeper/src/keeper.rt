@@ -2,8 +2,9 @@
 ghost use Rattle.std.specs.Prelude.{◌≡◌, ◌++◌, ◌∷◌, [], IfNone, IfOk, IfSome, None, OnOk, map, true};
 ghost use Rattle.nesl_session_meaning.specs.State.{Log, empty_log};
 ghost use Rattle.nesl_session_meaning.specs.Response.{Reply};
-ghost use Rattle.nesl_keep.specs.Device.{LeavesOnly};
-ghost use Rattle.nesl_keep.specs.Scroll.{device_of, kept, IsBeforeOrAfter, IsBeforeOrAnew, IsLine, IsSettled};
+ghost use Rattle.nesl_keep.specs.Device.{LeavesOnly, Only};
+ghost use Rattle.nesl_keep.specs.Scroll.{device_of, kept, HasSameLines};
+ghost use Rattle.nesl_keep.specs.Scroll.{IsBeforeOrAfter, IsBeforeOrAnew, IsLine, IsSettled};
 ghost use Rattle.nesl_keeper.specs.Files.{head_text, rows_of, StandsForEither};
 ghost use Rattle.nesl_keeper.specs.Steps.{IsFound, IsRestored, WasKept};
 
@@ -11,7 +12,8 @@ use crate::head::head_of;
 use crate::replay::{compare, replay};
 use memchr::memchr;
 use nesl_house::lease::{Lease, Resumed};
-use nesl_keep::device::{Device, DeviceError, Folder};
+use nesl_keep::blocks::read_lines;
+use nesl_keep::device::{Device, DeviceError, Folder, Opened};
 use nesl_keep::scroll::{Recovered, Scroll, Unrecovered, recover};
 use nesl_line::keeper::{Archive, KeepFault, Keeper, Mark, Mismatch, NotTakenUp, TakenUp};
 use nesl_session::laws::lines_are_stored;
@@ -49,7 +51,10 @@ impl<'x, F> KeptFiles<'x, F> {
     }
 }
 
-impl<'x, F: Folder> Archive for KeptFiles<'x, F> {
+impl<'x, F: Folder + Sync> Archive for KeptFiles<'x, F>
+where
+    F::Device: Send,
+{
     type Keeper = FileKeeper<'x, F>;
 
     fn keeper(&self) -> FileKeeper<'x, F> {
@@ -150,15 +155,52 @@ fn find<F: Folder>(
         Ok(opened) => opened,
         Err(error) => return Err(fault_of(error)),
     };
-    let Recovered { scroll, lines } = match recover(alloc, opened) {
-        Ok(recovered) => recovered,
-        Err(Unrecovered { device: _, error }) => return Err(fault_of(error)),
-    };
-    if lines.is_empty() {
+    let rows = rows_in(alloc, opened.bytes.as_slice())?;
+    if rows.is_empty() {
+        let scroll = bring_to_rest(alloc, opened)?;
         return begin(scroll, alloc, session);
     }
-    let restored = restore(alloc, session, lines.as_slice())?;
+    let restored = restore(alloc, session, rows.as_slice())?;
+    drop(rows);
+    let scroll = bring_to_rest(alloc, opened)?;
     Ok(Found { scroll, restored })
+}
+
+// Reads the lines of a file. One without a line has to be empty, or to have a closed gate alone, as a crash may leave
+// it. Any other one isn't of a session.
+fn rows_in(alloc: Global, bytes: &[u8]) -> Result<Vec<Vec<u8>>, KeepFault>
+    ensures { IfOk result (λ rows. map (λ v. v.items) rows.items ≡ kept bytes.now) }
+{
+    let Ok(rows) = read_lines(alloc, bytes) else {
+        return Err(KeepFault::Memory);
+    };
+    if rows.is_empty() && !is_blank(bytes) {
+        return Err(KeepFault::Strange(Mismatch::Head));
+    }
+    Ok(rows)
+}
+
+// Whether a file is empty, or has a closed gate alone.
+fn is_blank(bytes: &[u8]) -> bool {
+    match bytes {
+        [] | [b'.'] => true,
+        _ => false,
+    }
+}
+
+// Drops what is after the lines of a file. Nothing is written before it is known that the session fits.
+fn bring_to_rest<D: Device + Drop>(alloc: Global, opened: Opened<D>) -> Result<Scroll<D>, KeepFault>
+    requires read { opened.bytes.items ≡ D.seen opened.device }
+    requires durable { Only (D.seen opened.device) (D.may_leave opened.device) }
+    ensures settled { IfOk result (λ s. IsSettled D.seen D.may_leave s) }
+    ensures same { IfOk result (λ s. kept (D.seen (device_of s)) ≡ kept opened.bytes.items) }
+    ensures left { IfOk result (λ s. LeavesOnly D.moment D.left_since opened.device (device_of s)
+        (HasSameLines (D.seen opened.device))) }
+{
+    match recover(alloc, opened) {
+        Ok(Recovered { scroll, lines: _ }) => Ok(scroll),
+        Err(Unrecovered { device: _, error }) => Err(fault_of(error)),
+    }
 }
 
 // Writes the head of a new session into a file that has no line.
@@ -233,14 +275,14 @@ fn keep_line<D: Device>(
         return Ok(());
     }
     if is.stored != was.stored {
-        push(scroll, alloc, line)?;
+        push(scroll, line)?;
         return Ok(());
     }
     Ok(())
 }
 
 // Adds a line to the file.
-fn push<D: Device>(scroll: &mut Scroll<D>, alloc: Global, line: &[u8]) -> Result<(), KeepFault>
+fn push<D: Device>(scroll: &mut Scroll<D>, line: &[u8]) -> Result<(), KeepFault>
     requires settled { IsSettled D.seen D.may_leave scroll.old }
     ensures settled { OnOk result (IsSettled D.seen D.may_leave scroll.new) }
     ensures added { OnOk result (kept (D.seen (device_of scroll.new))
@@ -249,7 +291,7 @@ fn push<D: Device>(scroll: &mut Scroll<D>, alloc: Global, line: &[u8]) -> Result
         (IsBeforeOrAfter (kept (D.seen (device_of scroll.old))) line.now) }
 {
     require_line(line)?;
-    match scroll.push(alloc, line) {
+    match scroll.push(line) {
         Ok(()) => Ok(()),
         Err(error) => Err(fault_of(error)),
     }

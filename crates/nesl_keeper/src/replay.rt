@@ -111,8 +111,8 @@ fn compare_lines(own: &[Vec<u8>], lines: &[Vec<u8>]) -> Result<(), KeepFault>
     }
 }
 
-// The line of a file that has this number of lines after its head, of which so many are left. It is counted from 1, the
-// head included.
+// The current line's number in a file with this number of lines after its head, where `left` of them aren't replayed
+// yet. It is counted from 1, the head included.
 fn row_of(lines: usize, left: usize) -> usize {
     lines.saturating_sub(left).saturating_add(2)
 }

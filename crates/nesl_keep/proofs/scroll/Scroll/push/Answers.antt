@@ -24,7 +24,7 @@ pub write_through-requires-2-clause-at : goal.write_through-requires-2-clause-at
 write_through-requires-2-clause-at g c =
     let s = c.requires.settled in
     let lines = kept (g.D.Device.seen c.args.self.now.device) in
-    let bytes_are : c.deref.result.now ≡ c.args.line.now ++ 10 ∷ 46 ∷ [] = c.deref.ensures.value ∙ c.in_ok-block.ensures in
+    let bytes_are : c.deref.result.now ≡ c.args.line.now ++ 10 ∷ 46 ∷ [] = c.deref.ensures.value ∙ c.in_ok-fill_block.ensures in
     let holds = subst (λ b. Holds (at_rest lines) (c.args.self.now.end + 1) b (g.D.Device.seen c.write_through.new.device)) bytes_are (subst (λ f. Holds f (c.args.self.now.end + 1) c.deref.result.now (g.D.Device.seen c.write_through.new.device)) s.file c.in_ok-write_through.ensures.written) in
     let is_staged = written_after lines c.args.line.now c.args.self.now.end s.end _ holds in
     omega (arith, ap length is_staged, length-staged lines c.args.line.now c.args.self.now.end s.end)
@@ -40,7 +40,7 @@ returns-in_err-write_through-2-clause-any_moment g c =
     let P = IsBeforeOrAfter lines line in
     let first = weaker g.D.Device.moment g.D.Device.left_since old c.write_through.new.device (Torn (end + 1) (length c.deref.result.now) (g.D.Device.seen old)) P c.write_through.ensures.any_moment
     (λ f torn. inl (torn_after lines line end s.end (length c.deref.result.now) f s.lines (subst (λ d. Torn (end + 1) (length c.deref.result.now) d f) s.file torn))) in
-    let bytes_are : c.deref.result.now ≡ c.args.line.now ++ 10 ∷ 46 ∷ [] = c.deref.ensures.value ∙ c.in_ok-block.ensures in
+    let bytes_are : c.deref.result.now ≡ c.args.line.now ++ 10 ∷ 46 ∷ [] = c.deref.ensures.value ∙ c.in_ok-fill_block.ensures in
     let holds = subst (λ b. Holds (at_rest lines) (end + 1) b (g.D.Device.seen c.write_through.new.device)) bytes_are (subst (λ f. Holds f (end + 1) c.deref.result.now (g.D.Device.seen c.write_through.new.device)) s.file c.in_ok-write_through.ensures.written) in
     let is_staged = written_after lines line end s.end _ holds in
     chains g.D.Device.moment g.D.Device.left_since old c.write_through.new.device c.write_through-2.new.device P first
@@ -57,7 +57,7 @@ returns-clause-any_moment g c =
     let P = IsBeforeOrAfter lines line in
     let first = weaker g.D.Device.moment g.D.Device.left_since old c.write_through.new.device (Torn (end + 1) (length c.deref.result.now) (g.D.Device.seen old)) P c.write_through.ensures.any_moment
     (λ f torn. inl (torn_after lines line end s.end (length c.deref.result.now) f s.lines (subst (λ d. Torn (end + 1) (length c.deref.result.now) d f) s.file torn))) in
-    let bytes_are : c.deref.result.now ≡ c.args.line.now ++ 10 ∷ 46 ∷ [] = c.deref.ensures.value ∙ c.in_ok-block.ensures in
+    let bytes_are : c.deref.result.now ≡ c.args.line.now ++ 10 ∷ 46 ∷ [] = c.deref.ensures.value ∙ c.in_ok-fill_block.ensures in
     let holds = subst (λ b. Holds (at_rest lines) (end + 1) b (g.D.Device.seen c.write_through.new.device)) bytes_are (subst (λ f. Holds f (end + 1) c.deref.result.now (g.D.Device.seen c.write_through.new.device)) s.file c.in_ok-write_through.ensures.written) in
     let is_staged = written_after lines line end s.end _ holds in
     chains g.D.Device.moment g.D.Device.left_since old c.write_through.new.device c.write_through-2.new.device P first
@@ -71,7 +71,7 @@ returns-clause-added g c =
     let lines = kept (g.D.Device.seen c.args.self.now.device) in
     let line = c.args.line.now in
     let end = c.args.self.now.end in
-    let bytes_are : c.deref.result.now ≡ c.args.line.now ++ 10 ∷ 46 ∷ [] = c.deref.ensures.value ∙ c.in_ok-block.ensures in
+    let bytes_are : c.deref.result.now ≡ c.args.line.now ++ 10 ∷ 46 ∷ [] = c.deref.ensures.value ∙ c.in_ok-fill_block.ensures in
     let holds = subst (λ b. Holds (at_rest lines) (end + 1) b (g.D.Device.seen c.write_through.new.device)) bytes_are (subst (λ f. Holds f (end + 1) c.deref.result.now (g.D.Device.seen c.write_through.new.device)) s.file c.in_ok-write_through.ensures.written) in
     let is_staged = written_after lines line end s.end _ holds in
     let holds_gate = subst (λ f. Holds f end (62 ∷ []) (g.D.Device.seen c.write_through-2.new.device)) is_staged c.in_ok-write_through-2.ensures.written in
