@@ -46,7 +46,7 @@ abbrev pub may_leave : List Event → List ℕ → Type 0
 may_leave [] c = c ≡ []
 may_leave (event ∷ earlier) c = left_after event (seen earlier) (faults earlier) (may_leave earlier) c
 
--- What a crash may have left at some moment from t on. A moment is the number of events until then. A crash during a call
+-- What a crash may have left at some moment from t on. A moment is the number of events until then. A crash in a call
 -- leaves what one before the call might leave, or one after it.
 abbrev pub left_since : List Event → ℕ → List ℕ → Type 0
 left_since [] t c = may_leave [] c

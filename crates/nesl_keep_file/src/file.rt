@@ -7,13 +7,12 @@ ghost use Rattle.nesl_keep_file.specs.Moments.{counts_now, only_now};
 
 use crate::calls::Call;
 use crate::history::History;
-use crate::system::{fill, make_file, open_file, read_settled, remove_left_over};
+use crate::system::{Storage, fill, read_settled};
 use nesl_keep::device::{Device, DeviceError, Opened};
 use std::alloc::Global;
-use std::fs::{self, File};
+use std::fs::File;
 use std::io::{self, ErrorKind};
 use std::os::unix::fs::FileExt;
-use std::rt::Files;
 
 /// The most bytes of a file that is opened. A session stores 10,000 lines and 1 MiB of text, and a gate and a line end
 /// for each line.
@@ -42,12 +41,12 @@ pub struct UserFile<'x, R> {
     history: History,
 }
 
-impl<'x, R: Files<File = File>> UserFile<'x, R> {
+impl<'x, R: Storage> UserFile<'x, R> {
     /// Opens the file. If it isn't there, none is made: a full disk doesn't matter yet.
     pub(crate) fn open(rt: &'x R, alloc: Global, place: Place) -> io::Result<Opened<Self>>
         ensures { IfOk result (λ o. events o.device.history ≡ opened o.bytes.items ∷ []) }
     {
-        let file = match open_file(rt, place.path.as_str()) {
+        let file = match rt.open_file(place.path.as_str()) {
             Ok(file) => Some(file),
             Err(error) if error.kind() == ErrorKind::NotFound => None,
             Err(error) => return Err(error),
@@ -92,14 +91,14 @@ impl<'x, R: Files<File = File>> UserFile<'x, R> {
     fn try_replace(&self, bytes: &[u8]) -> io::Result<File> {
         self.history.require_working()?;
         let (path, beside) = (self.place.path.as_str(), self.place.beside.as_str());
-        remove_left_over(self.rt, beside)?;
-        let file = make_file(self.rt, beside)?;
+        self.rt.remove_left_over(beside)?;
+        let file = self.rt.make_file(beside)?;
         let placed = match fill(&file, bytes) {
-            Ok(()) => fs::rename(self.rt, beside, path),
+            Ok(()) => self.rt.rename(beside, path),
             Err(error) => Err(error),
         };
         if let Err(error) = placed {
-            let _ = fs::remove_file(self.rt, beside).is_ok();
+            let _ = self.rt.remove(beside).is_ok();
             return Err(error);
         }
         self.place.folder.sync_all()?;
@@ -107,7 +106,7 @@ impl<'x, R: Files<File = File>> UserFile<'x, R> {
     }
 }
 
-impl<R: Files<File = File>> Device for UserFile<'_, R> {
+impl<R: Storage> Device for UserFile<'_, R> {
     ghost seen = { λ f. seen (events f.history) };
 
     ghost may_leave = { λ f. may_leave (events f.history) };

@@ -1,12 +1,11 @@
 //! The folder of the users' files, which one process has at a time.
 
 use crate::file::{Place, UserFile};
-use crate::system::{make_file, open_file, open_folder, sync_if_readable};
+use crate::system::Storage;
 use nesl_keep::device::{DeviceError, Folder, Opened};
 use std::alloc::{AllocError, Global};
 use std::fs::{File, TryLockError};
 use std::io::{self, ErrorKind};
-use std::rt::Files as System;
 
 /// The most letters and digits of a user's name.
 const MOST_LETTERS: usize = 16;
@@ -50,11 +49,11 @@ pub struct Files<'x, R> {
     lock: File,
 }
 
-impl<'x, R: System<File = File>> Files<'x, R> {
+impl<'x, R: Storage> Files<'x, R> {
     /// Takes a folder, which is made if it isn't there, by a lock on the file `FOLDER/.lock`. The lock ends with the
     /// process, however that ends.
     pub fn lock(rt: &'x R, alloc: Global, path: &'x str) -> Result<Self, FolderFault> {
-        let folder = open_folder(rt, path)?;
+        let folder = rt.open_folder(path)?;
         let lock = open_lock(rt, format!(in alloc; "{path}/.lock")?.as_str())?;
         match lock.try_lock() {
             Ok(()) => {}
@@ -62,7 +61,7 @@ impl<'x, R: System<File = File>> Files<'x, R> {
             Err(TryLockError::Error(error)) => return Err(FolderFault::from(error)),
         }
         // The folder's own name must outlast a crash too. Whoever may not read the folder above didn't make this one.
-        sync_if_readable(rt, format!(in alloc; "{path}/..")?.as_str())?;
+        rt.sync_if_readable(format!(in alloc; "{path}/..")?.as_str())?;
         Ok(Files {
             rt,
             path,
@@ -72,14 +71,14 @@ impl<'x, R: System<File = File>> Files<'x, R> {
     }
 }
 
-fn open_lock<R: System<File = File>>(rt: &R, path: &str) -> io::Result<File> {
-    match make_file(rt, path) {
-        Err(error) if error.kind() == ErrorKind::AlreadyExists => open_file(rt, path),
+fn open_lock<R: Storage>(rt: &R, path: &str) -> io::Result<File> {
+    match rt.make_file(path) {
+        Err(error) if error.kind() == ErrorKind::AlreadyExists => rt.open_file(path),
         made => made,
     }
 }
 
-impl<'x, R: System<File = File>> Folder for Files<'x, R> {
+impl<'x, R: Storage> Folder for Files<'x, R> {
     type Device = UserFile<'x, R>;
 
     /// A name that isn't 1 to 16 small letters and digits is refused as `Failed(None)`, and so is what is no regular

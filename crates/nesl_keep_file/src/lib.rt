@@ -13,3 +13,4 @@ mod system;
 
 pub use file::UserFile;
 pub use folder::{Files, FolderFault};
+pub use system::Storage;

@@ -1,4 +1,4 @@
-//! Calls of the system on files and folders. What stands at a name may be anything: a pipe, a link or a folder.
+//! Calls of the system on files and folders. A name may be of anything: of a pipe, a link or a folder.
 
 use std::alloc::Global;
 use std::fs::{self, DirBuilder, File, Metadata, OpenOptions};
@@ -16,8 +16,63 @@ const PRIVATE_FOLDER: u32 = 0o700;
 /// The system's error for a file that is too large.
 const TOO_LARGE: i32 = 27;
 
+/// The calls of the system by which files are kept. It is a trait of its own, since what threads share can't rest on an
+/// assumed `Files` of the kit.
+pub trait Storage {
+    /// Opens a folder, which is made if it isn't there, with mode 0700.
+    fn open_folder(&self, path: &str) -> io::Result<File>;
+
+    /// Brings a folder's names to the disk, if it may be read.
+    fn sync_if_readable(&self, path: &str) -> io::Result<()>;
+
+    /// Makes a file that isn't there, with mode 0600.
+    fn make_file(&self, path: &str) -> io::Result<File>;
+
+    /// Opens a regular file that is there.
+    fn open_file(&self, path: &str) -> io::Result<File>;
+
+    /// Removes what an earlier replacement left at a name.
+    fn remove_left_over(&self, path: &str) -> io::Result<()>;
+
+    /// Gives a file the name of another, which it replaces.
+    fn rename(&self, from: &str, to: &str) -> io::Result<()>;
+
+    /// Removes a file.
+    fn remove(&self, path: &str) -> io::Result<()>;
+}
+
+impl<R: Files<File = File>> Storage for R {
+    fn open_folder(&self, path: &str) -> io::Result<File> {
+        open_folder(self, path)
+    }
+
+    fn sync_if_readable(&self, path: &str) -> io::Result<()> {
+        sync_if_readable(self, path)
+    }
+
+    fn make_file(&self, path: &str) -> io::Result<File> {
+        make_file(self, path)
+    }
+
+    fn open_file(&self, path: &str) -> io::Result<File> {
+        open_file(self, path)
+    }
+
+    fn remove_left_over(&self, path: &str) -> io::Result<()> {
+        remove_left_over(self, path)
+    }
+
+    fn rename(&self, from: &str, to: &str) -> io::Result<()> {
+        fs::rename(self, from, to)
+    }
+
+    fn remove(&self, path: &str) -> io::Result<()> {
+        fs::remove_file(self, path)
+    }
+}
+
 /// Opens a folder, which is made if nothing has its name. Only a folder is opened, since a pipe could block.
-pub(crate) fn open_folder<R: Files<File = File>>(rt: &R, path: &str) -> io::Result<File> {
+fn open_folder<R: Files<File = File>>(rt: &R, path: &str) -> io::Result<File> {
     match DirBuilder::new().mode(PRIVATE_FOLDER).create(rt, path) {
         Err(error) if error.kind() != ErrorKind::AlreadyExists => return Err(error),
         _ => {}
@@ -34,7 +89,7 @@ pub(crate) fn open_folder<R: Files<File = File>>(rt: &R, path: &str) -> io::Resu
 }
 
 /// Brings the names in a folder to the disk, unless this process may not read it.
-pub(crate) fn sync_if_readable<R: Files<File = File>>(rt: &R, path: &str) -> io::Result<()> {
+fn sync_if_readable<R: Files<File = File>>(rt: &R, path: &str) -> io::Result<()> {
     match fs::open(rt, path) {
         Ok(folder) => folder.sync_all(),
         Err(error) if error.kind() == ErrorKind::PermissionDenied => Ok(()),
@@ -43,7 +98,7 @@ pub(crate) fn sync_if_readable<R: Files<File = File>>(rt: &R, path: &str) -> io:
 }
 
 /// Makes a file for reading and writing. Fails if anything has its name.
-pub(crate) fn make_file<R: Files<File = File>>(rt: &R, path: &str) -> io::Result<File> {
+fn make_file<R: Files<File = File>>(rt: &R, path: &str) -> io::Result<File> {
     OpenOptions::new()
         .read(true)
         .write(true)
@@ -54,7 +109,7 @@ pub(crate) fn make_file<R: Files<File = File>>(rt: &R, path: &str) -> io::Result
 
 /// Opens a regular file for reading and writing. Nothing else is opened, since a pipe could block, and a link could
 /// lead out of the folder. The opened file must be the one that was found, since another may have taken its place.
-pub(crate) fn open_file<R: Files<File = File>>(rt: &R, path: &str) -> io::Result<File> {
+fn open_file<R: Files<File = File>>(rt: &R, path: &str) -> io::Result<File> {
     let found = fs::symlink_metadata(rt, path)?;
     require_regular(&found)?;
     let file = OpenOptions::new().read(true).write(true).open(rt, path)?;
@@ -67,7 +122,7 @@ pub(crate) fn open_file<R: Files<File = File>>(rt: &R, path: &str) -> io::Result
 }
 
 /// Removes a regular file, if there is one.
-pub(crate) fn remove_left_over<R: Files<File = File>>(rt: &R, path: &str) -> io::Result<()> {
+fn remove_left_over<R: Files<File = File>>(rt: &R, path: &str) -> io::Result<()> {
     match fs::symlink_metadata(rt, path) {
         Ok(found) => {
             require_regular(&found)?;
