@@ -111,7 +111,7 @@ pub trait Keeper {
 
 /// Makes a keeper for each connection.
 pub trait Archive {
-    type Keeper: Keeper + Drop;
+    type Keeper: Keeper + Drop + Send;
 
     /// A keeper that has taken up no session yet.
     fn keeper(&self) -> Self::Keeper;
