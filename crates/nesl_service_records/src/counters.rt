@@ -2,6 +2,7 @@
 
 use crate::answers::FAULTS;
 use crate::journal::{Answered, Caller, Ending, Seat};
+use crate::kept::KeptLine;
 use std::alloc::{AllocError, Global};
 use std::fmt::Write;
 use std::sync::atomic::{AtomicU64, Ordering};
@@ -28,6 +29,14 @@ pub struct Counters {
     refused: AtomicU64,
     written: AtomicU64,
     lost: AtomicU64,
+    /// 1 if sessions are kept, and else 0.
+    keeping: AtomicU64,
+    kept_lines: AtomicU64,
+    kept_bytes: AtomicU64,
+    kept_micros: AtomicU64,
+    /// One counter for each threshold, in the order of `SLOW_MILLIS`.
+    slow_kept: Vec<AtomicU64>,
+    not_taken_up: AtomicU64,
 }
 
 // Makes `count` counters, each at 0.
@@ -46,6 +55,15 @@ fn add(counter: &AtomicU64, more: u64) {
 fn add_at(counters: &[AtomicU64], place: usize) {
     if let Some(counter) = counters.get(place) {
         add(counter, 1);
+    }
+}
+
+// Counts a time for each threshold that it reaches.
+fn add_slow(counters: &[AtomicU64], took: Duration) {
+    for (place, millis) in SLOW_MILLIS.iter().enumerate() {
+        if took >= Duration::from_millis(*millis) {
+            add_at(counters, place);
+        }
     }
 }
 
@@ -78,6 +96,15 @@ fn write_one(
     write_number(text, "\":", read_at(counters, place))
 }
 
+// Writes how many times reached each threshold.
+fn write_slow(text: &mut String, counters: &[AtomicU64]) -> Result<(), AllocError> {
+    text.push_str("\"slow\":{")?;
+    for (place, name) in ["1 ms", "10 ms", "100 ms"].iter().enumerate() {
+        write_one(text, place, name, counters)?;
+    }
+    text.push_str("}")
+}
+
 impl Counters {
     /// All counters at 0.
     pub fn new(alloc: Global) -> Result<Counters, AllocError> {
@@ -94,6 +121,12 @@ impl Counters {
             refused: AtomicU64::new(0),
             written: AtomicU64::new(0),
             lost: AtomicU64::new(0),
+            keeping: AtomicU64::new(0),
+            kept_lines: AtomicU64::new(0),
+            kept_bytes: AtomicU64::new(0),
+            kept_micros: AtomicU64::new(0),
+            slow_kept: zeros(alloc, SLOW_MILLIS.len())?,
+            not_taken_up: AtomicU64::new(0),
         })
     }
 
@@ -128,11 +161,7 @@ impl Counters {
             add_at(self.faults.as_slice(), place);
         }
         if let Some(took) = answered.took {
-            for (place, millis) in SLOW_MILLIS.iter().enumerate() {
-                if took >= Duration::from_millis(*millis) {
-                    add_at(self.slow.as_slice(), place);
-                }
-            }
+            add_slow(self.slow.as_slice(), took);
         }
     }
 
@@ -160,12 +189,34 @@ impl Counters {
         );
     }
 
+    /// Notes that sessions are kept.
+    pub fn keep(&self) {
+        self.keeping.store(1, Ordering::SeqCst);
+    }
+
+    /// Counts a line that was kept, with its bytes and its time.
+    pub fn kept(&self, kept: KeptLine) {
+        add(&self.kept_lines, 1);
+        add(&self.kept_bytes, kept.bytes);
+        add(
+            &self.kept_micros,
+            u64::try_from(kept.took.as_micros()).unwrap_or(u64::MAX),
+        );
+        add_slow(self.slow_kept.as_slice(), kept.took);
+    }
+
+    /// Counts a kept session that could not be taken up.
+    pub fn not_taken_up(&self) {
+        add(&self.not_taken_up, 1);
+    }
+
     /// Returns all counters as one line of JSON, without a line end. `uptime` is rounded down to seconds.
     pub fn json(&self, alloc: Global, uptime: Duration) -> Result<String, AllocError> {
         let mut text = String::new(alloc);
         self.write_connections(&mut text, uptime)?;
         self.write_lines(&mut text)?;
         self.write_events(&mut text)?;
+        self.write_kept(&mut text)?;
         Ok(text)
     }
 
@@ -196,11 +247,9 @@ impl Counters {
         for (place, word) in FAULTS.iter().enumerate() {
             write_one(text, place, word, self.faults.as_slice())?;
         }
-        text.push_str("},\"slow\":{")?;
-        for (place, name) in ["1 ms", "10 ms", "100 ms"].iter().enumerate() {
-            write_one(text, place, name, self.slow.as_slice())?;
-        }
-        text.push_str("},")
+        text.push_str("},")?;
+        write_slow(text, self.slow.as_slice())?;
+        text.push_str(",")
     }
 
     // Writes the numbers of requests for helpers, and of lines of the log.
@@ -209,6 +258,18 @@ impl Counters {
         write_number(text, ",\"refused\":", read(&self.refused))?;
         write_number(text, "},\"log\":{\"told\":", read(&self.written))?;
         write_number(text, ",\"lost\":", read(&self.lost))?;
+        text.push_str("},")
+    }
+
+    // Writes the numbers of lines that were kept, and of sessions that could not be taken up.
+    fn write_kept(&self, text: &mut String) -> Result<(), AllocError> {
+        write_number(text, "\"keep\":{\"on\":", read(&self.keeping))?;
+        write_number(text, ",\"lines\":", read(&self.kept_lines))?;
+        write_number(text, ",\"bytes\":", read(&self.kept_bytes))?;
+        write_number(text, ",\"us\":", read(&self.kept_micros))?;
+        text.push_str(",")?;
+        write_slow(text, self.slow_kept.as_slice())?;
+        write_number(text, ",\"not_taken_up\":", read(&self.not_taken_up))?;
         text.push_str("}}")
     }
 }

@@ -3,7 +3,9 @@ ghost use Rattle.std.specs.Prelude.{◌≡◌};
 ghost use Rattle.nesl_service_records.specs.Ends.{ending_of};
 
 use crate::accepting::AcceptFault;
+use crate::kept::{KeptLine, KeptSum};
 use nesl_line::exchange::End;
+use nesl_line::keeper::KeepFault;
 use std::time::Duration;
 
 /// A connection: its number, counted from 1, the peer's port, and whether it is a WebSocket.
@@ -120,6 +122,8 @@ pub struct Visit<'a> {
     pub ending: Ending,
     /// How long the connection lasted, if the clock could be read.
     pub took: Option<Duration>,
+    /// What was kept of its lines, if sessions are kept.
+    pub kept: Option<KeptSum>,
 }
 
 /// Receives the events of a service. The events of a connection come from the thread that serves it.
@@ -143,8 +147,19 @@ pub trait Journal {
     /// A helper was requested.
     fn asked(&self, is_granted: bool);
 
+    /// A line of a user was kept. Journals that don't count may ignore it.
+    fn kept(&self, _kept: KeptLine) {}
+
     /// The service stopped accepting connections, since that failed for good. Journals without a log may ignore it.
     fn accept_failed(&self, _fault: AcceptFault) {}
+
+    /// The kept session of a user could not be taken up. The user was turned away, and the service goes on. Journals
+    /// without a log may ignore it.
+    fn not_taken_up(&self, _user: Option<&[u8]>, _fault: KeepFault) {}
+
+    /// A line of a user could not be kept. It got no answer, and the service ends. Journals without a log may ignore
+    /// it.
+    fn keep_failed(&self, _user: Option<&[u8]>, _fault: KeepFault) {}
 }
 
 /// A journal that ignores all events.

@@ -1,14 +1,33 @@
 //! The numbers of connections.
 ghost use Rattle.std.specs.Prelude.{◌≡◌, ◌+◌, ◌-◌, ◌≤◌, ◌<◌, ◌↔◌, IfSome, IsSome, Some, None};
 ghost use Rattle.std.specs.Option.{IfNone};
+ghost use Rattle.nesl_service_records.specs.Ends.{gravest_of};
 
 /// Why a service ended early.
 #[derive(Clone, Copy, PartialEq, Eq, Debug)]
 pub enum Fault {
+    /// A line could not be kept.
+    Keep,
     /// A socket that accepts connections failed.
     Socket,
     /// A thread could not be made, or memory for it ran out.
     Memory,
+}
+
+impl Fault {
+    // Returns the graver one of this fault and an earlier one, if there was one.
+    fn or_graver(self, earlier: Option<Fault>) -> Fault
+        ensures { result ≡ gravest_of earlier self }
+    {
+        match earlier {
+            Some(Fault::Keep) => Fault::Keep,
+            Some(Fault::Socket) => match self {
+                Fault::Keep => Fault::Keep,
+                Fault::Socket | Fault::Memory => Fault::Socket,
+            },
+            Some(Fault::Memory) | None => self,
+        }
+    }
 }
 
 /// The numbers of connections. `all` is how many there are in all, and `left` how many are still to come. `fault` is
@@ -46,19 +65,14 @@ impl Numbers {
         Some(self.all.saturating_sub(self.left))
     }
 
-    /// Gives out no more numbers. A fault of a socket is kept rather than one of memory.
+    /// Gives out no more numbers. Of several faults the gravest is reported: that of a line that could not be kept, or
+    /// else one of a socket, or else one of memory.
     pub fn end(&mut self, fault: Fault)
         ensures none { self.new.left ≡ 0 }
         ensures all { self.new.all ≡ self.old.all }
-        ensures fault { IsSome self.new.fault }
-        ensures again { self.old.fault ≡ Some fault → self.new.fault ≡ Some fault }
-        ensures socket { fault ≡ Fault.Socket → self.new.fault ≡ Some Fault.Socket }
-        ensures first { self.old.fault ≡ Some Fault.Socket → self.new.fault ≡ Some Fault.Socket }
-        ensures only { self.old.fault ≡ None → self.new.fault ≡ Some fault }
+        ensures fault { self.new.fault ≡ Some (gravest_of self.old.fault fault) }
     {
         self.left = 0;
-        if self.fault != Some(Fault::Socket) {
-            self.fault = Some(fault);
-        }
+        self.fault = Some(fault.or_graver(self.fault));
     }
 }
