@@ -55,6 +55,7 @@ GET / HTTP/1.0 | Host: localhost => 200
 GET /index.html HTTP/1.1 | Host: localhost => 200
 GET /?again HTTP/1.1 | Host: localhost => 200
 GET /main.js?1 HTTP/1.1 | Host: localhost => 200
+GET /lasting.js HTTP/1.1 | Host: localhost => 200
 GET /nothing HTTP/1.1 | Host: localhost => 404
 GET /main.jsx HTTP/1.1 | Host: localhost => 404
 GET /../main.js HTTP/1.1 | Host: localhost => 404

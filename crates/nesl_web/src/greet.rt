@@ -3,7 +3,7 @@
 use crate::answer::{Content, Refusal, file_head, methods_answer, refusal_answer, upgrade_answer};
 use crate::head::{HeadFault, read_head};
 use crate::lines::Patience;
-use crate::route::{Route, content_for, route_for};
+use crate::route::{PageTerms, Route, content_for, route_for};
 use crate::wire::{BROWSER_DRAIN, DrainLimits, REFUSED_DRAIN, Wire};
 use nesl_web_files::File;
 use std::alloc::Global;
@@ -24,20 +24,19 @@ pub enum Greeted {
     Session(Vec<u8>),
 }
 
-/// Reads a browser's request, and answers it. `given` are known names of the host, besides those by which each machine
-/// calls itself. The head has as much time as a first line. On a WebSocket, a piece of an answer has as much time as a
-/// line.
+/// Reads a browser's request, and answers it. The head has as much time as a first line. On a WebSocket, a piece of an
+/// answer has as much time as a line.
 pub fn greet<'s, R: Clock>(
     rt: &'s R,
     alloc: Global,
     stream: &'s TcpStream,
-    given: &[&[u8]],
+    terms: &PageTerms<'_>,
     patience: Patience,
 ) -> io::Result<Greeted> {
     let mut wire = Wire::new(rt, stream, Some(Duration::from_secs(PIECE_SECONDS)));
     wire.wait(Some(patience.first_line))?;
     match read_head(alloc, &mut wire) {
-        Ok(bytes) => match route_for(alloc, given, bytes.as_slice())? {
+        Ok(bytes) => match route_for(alloc, terms, bytes.as_slice())? {
             Route::Session {
                 accept_key,
                 head_bytes,

@@ -7,12 +7,21 @@ use crate::access::{is_allowed, values_of};
 use crate::answer::{Content, Refusal};
 use httparse::spans::{EMPTY_HEADER_SPAN, HeaderSpan, RequestSpans, parse_request};
 use httparse::{Error, Status};
-use nesl_web_files::{File, file_at};
+use nesl_web_files::{File, Lasting, file_at};
 use std::alloc::{AllocError, Global};
 use websocket::handshake::server::check_request;
 
 /// The most fields of a head.
 const MOST_FIELDS: usize = 64;
+
+/// What is served to browsers.
+#[derive(Clone, Copy)]
+pub struct PageTerms<'x> {
+    /// Known names of the host, besides those by which each machine calls itself.
+    pub names: &'x [&'x [u8]],
+    /// How long its sessions last.
+    pub lasting: Lasting,
+}
 
 /// How a request is answered.
 #[derive(Clone, Copy)]
@@ -44,13 +53,13 @@ pub fn is_whole(bytes: &[u8]) -> Result<bool, Refusal>
     }
 }
 
-/// Returns the answer to the request with this head. `given` are the known names of the host.
-pub fn route_for(alloc: Global, given: &[&[u8]], bytes: &[u8]) -> Result<Route, AllocError>
-    ensures { IfOk result (LetsIn (map (λ name. name.now) given.now) bytes.now) }
+/// Returns the answer to the request with this head.
+pub fn route_for(alloc: Global, terms: &PageTerms<'_>, bytes: &[u8]) -> Result<Route, AllocError>
+    ensures { IfOk result (LetsIn (map (λ name. name.now) terms.now.names.now) bytes.now) }
 {
     let mut fields = [EMPTY_HEADER_SPAN; MOST_FIELDS];
     match parse_request(bytes, &mut fields) {
-        Ok(Status::Complete(request)) => route_of(alloc, given, bytes, &request, &fields),
+        Ok(Status::Complete(request)) => route_of(alloc, terms, bytes, &request, &fields),
         Ok(Status::Partial) => Ok(Route::Refused(Refusal::Unreadable)),
         Err(error) => Ok(Route::Refused(refusal_of(error))),
     }
@@ -66,23 +75,23 @@ fn refusal_of(error: Error) -> Refusal {
 // Returns the answer to the request with this parsed head.
 fn route_of(
     alloc: Global,
-    given: &[&[u8]],
+    terms: &PageTerms<'_>,
     bytes: &[u8],
     request: &RequestSpans,
     fields: &[HeaderSpan],
 ) -> Result<Route, AllocError>
     requires within { IsRequestWithin bytes.now fields.now request.now }
     requires read { IsRequestOf bytes.now fields.now request.now }
-    ensures { IfOk result (LetsIn (map (λ name. name.now) given.now) bytes.now) }
+    ensures { IfOk result (LetsIn (map (λ name. name.now) terms.now.names.now) bytes.now) }
 {
     let all = &fields[..request.headers];
     let hosts = values_of(alloc, bytes, all, b"Host")?;
     let origins = values_of(alloc, bytes, all, b"Origin")?;
-    if !is_allowed(given, hosts.as_slice(), origins.as_slice()) {
+    if !is_allowed(terms.names, hosts.as_slice(), origins.as_slice()) {
         return Ok(Route::Refused(Refusal::Forbidden));
     }
     let keys = values_of(alloc, bytes, all, b"Sec-WebSocket-Key")?;
-    let route = route_allowed(bytes, request, fields);
+    let route = route_allowed(terms.lasting, bytes, request, fields);
     match route {
         // A request with two keys is refused.
         Route::Session { .. } if keys.len() > 1 => Ok(Route::Refused(Refusal::Unreadable)),
@@ -125,14 +134,19 @@ impl Method {
 }
 
 // Returns the answer to an allowed request.
-fn route_allowed(bytes: &[u8], request: &RequestSpans, fields: &[HeaderSpan]) -> Route
+fn route_allowed(
+    lasting: Lasting,
+    bytes: &[u8],
+    request: &RequestSpans,
+    fields: &[HeaderSpan],
+) -> Route
     requires { IsRequestWithin bytes.now fields.now request.now }
 {
     let method = Method::of(request.method.of(bytes));
     let Ok(path) = str::from_utf8(without_query(request.path.of(bytes))) else {
         return Route::Refused(Refusal::NotFound);
     };
-    let file = file_at(path);
+    let file = file_at(path, lasting);
     let is_found = path == "/session" || file.is_some();
     match method {
         // A star means all paths.

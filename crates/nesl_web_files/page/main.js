@@ -2,6 +2,7 @@
 import { announce, find } from "./dom.js";
 import { forget, keep, kept } from "./kept.js";
 import { FAULTS } from "./language.js";
+import { ARE_KEPT } from "./lasting.js";
 import { askAll, askSoon, openLeft } from "./left.js";
 import { openLessons, showLessons } from "./lesson_view.js";
 import { openMeasure, showMeasure } from "./measure.js";
@@ -9,7 +10,10 @@ import { openNotebook, queueForms, tellField } from "./notebook.js";
 import { session } from "./session.js";
 
 const UNREACHABLE = "The server can’t be reached. It may have been stopped.";
-const LOST = "The connection has ended. What is bound stays with the session, and waits for you.";
+const LOST = ARE_KEPT
+  ? "The connection has ended. What was answered is kept on the server’s disk, and waits for you."
+  : "The connection has ended. What is bound stays with the session, and waits for you.";
+const KEPT = "Sessions are kept on the server’s disk. Yours waits for you, also when the server was restarted.";
 const ENDED_FORM = "A form that was begun elsewhere waited in this session. The page’s question has ended it.";
 const NO_NAME = "A user’s name is a small letter, then small letters and digits, at most 16 in all.";
 const VIEWS = ["notebook", "measure", "lessons"];
@@ -103,5 +107,6 @@ find("leave").addEventListener("click", () => leave(""));
 find("again").addEventListener("click", takeUp);
 session.addEventListener("lost", () => tell(LOST));
 window.addEventListener("hashchange", () => kept.user && route());
+if (ARE_KEPT) find("lasting").textContent = KEPT;
 show(Boolean(kept.user));
 if (kept.user) takeUp();

@@ -29,7 +29,8 @@ pub static TEXT: &str = r##"<!doctype html>
     </div>
     <p id="sign-fault" class="wrong" role="alert"></p>
     <p id="sign-help" class="soft">One of the names that the server was started with, for instance <code>ann</code>.
-      There are no passwords. A session stays with the server when you leave, and waits for you.</p>
+      There are no passwords. <span id="lasting">A session stays with the server when you leave, and waits for
+      you.</span></p>
   </form>
 </main>
 

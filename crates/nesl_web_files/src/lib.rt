@@ -37,8 +37,33 @@ struct Placed {
     file: File,
 }
 
-/// The file at a path; the page itself is at `/`.
-pub fn file_at(path: &str) -> Option<File> {
+/// How long the sessions of a service last.
+#[derive(Clone, Copy, PartialEq, Eq, Debug)]
+pub enum Lasting {
+    /// Until the service ends.
+    InMemory,
+    /// Beyond that, since they are kept on a disk.
+    Kept,
+}
+
+impl Lasting {
+    // What the page's other scripts import of it.
+    fn script(self) -> &'static str {
+        match self {
+            Lasting::InMemory => "export const ARE_KEPT = false;\n",
+            Lasting::Kept => "export const ARE_KEPT = true;\n",
+        }
+    }
+}
+
+/// The file at a path of a service whose sessions last as long as this; the page itself is at `/`.
+pub fn file_at(path: &str, lasting: Lasting) -> Option<File> {
+    if path == "/lasting.js" {
+        return Some(File {
+            kind: SCRIPT,
+            text: lasting.script(),
+        });
+    }
     for placed in &all_files() {
         if placed.path == path {
             return Some(placed.file);
