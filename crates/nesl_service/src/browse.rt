@@ -6,12 +6,14 @@ use crate::wire::Patience;
 use nesl_eval_helpers::Gate;
 use nesl_line::device::Device;
 use nesl_line::exchange::End;
+use nesl_line::keeper::Archive;
 use nesl_service_records::accepting::AcceptFault;
 use nesl_service_records::answers::{AnswerObserver, ObservedWriter};
 use nesl_service_records::journal::{Caller, Journal, Missed};
 use nesl_service_records::watch::{Timed, Watch};
 use nesl_web::greet::{Greeted, greet};
 use nesl_web::lines::{MessageReader, MessageWriter};
+use nesl_web::route::PageTerms;
 use nesl_web::wire::{BROWSER_DRAIN, REFUSED_DRAIN};
 use std::io;
 use std::net::{TcpListener, TcpStream};
@@ -118,7 +120,8 @@ impl<
     L: Ledger + Sync,
     G: Gate + Sync,
     J: Journal + Sync,
-> Service<'x, R, L, G, J> {
+    A: Archive + Sync,
+> Service<'x, R, L, G, J, A> {
     /// Serves browsers until no more are accepted.
     pub(crate) fn receive_all(&self, page: &PageAcceptor<'_>) {
         for _ in self.rt.forever() {
@@ -144,16 +147,39 @@ impl<
         stream: &TcpStream,
         patience: Patience,
     ) -> io::Result<Greeted> {
+        let lasting = self.lasting();
         match page.host {
-            Some(name) => greet(self.rt, self.alloc, stream, &[name], patience),
-            None => greet(self.rt, self.alloc, stream, &[], patience),
+            Some(name) => greet(
+                self.rt,
+                self.alloc,
+                stream,
+                &PageTerms {
+                    names: &[name],
+                    lasting,
+                },
+                patience,
+            ),
+            None => greet(
+                self.rt,
+                self.alloc,
+                stream,
+                &PageTerms {
+                    names: &[],
+                    lasting,
+                },
+                patience,
+            ),
         }
     }
 
-    // Serves a browser, and counts its connection meanwhile.
+    // Serves a browser, and counts its connection meanwhile. If sessions are kept, its stream is listed. A browser
+    // whose stream can't be listed gets no answer.
     fn receive(&self, page: &PageAcceptor<'_>, accepted: &Accepted) {
         let patience = page.begin_connection(self.terms.patience);
-        self.receive_within(page, accepted, patience);
+        if let Ok(listed) = self.list(&accepted.stream) {
+            self.receive_within(page, accepted, patience);
+            self.unlist(listed);
+        }
         page.finish_connection();
     }
 
@@ -198,7 +224,7 @@ impl<
         let reader = MessageReader::new(self.rt, self.alloc, stream, first, patience);
         let Ok(writer) = MessageWriter::new(self.rt, self.alloc, stream, patience) else {
             reader.end(REFUSED_DRAIN);
-            return ServedConnection::without_memory();
+            return ServedConnection::unread(End::NoMemory);
         };
         let mut reader = Device::new(Timed {
             reader,
@@ -208,7 +234,8 @@ impl<
             writer,
             observer: AnswerObserver::new(&watch, self.journal, caller),
         });
-        let served = self.serve(&mut reader, &mut writer);
+        let lines = self.serve(&mut reader, &mut writer);
+        let served = lines.served;
         let Timed { reader, .. } = reader.into_inner();
         let ObservedWriter { writer, .. } = writer.into_inner();
         let missed = missed_by(&reader).or(untaken_by(&writer));
@@ -220,7 +247,7 @@ impl<
         if served.end != End::WriteFault {
             reader.end(limits);
         }
-        ServedConnection { served, missed }
+        ServedConnection { lines, missed }
     }
 }
 

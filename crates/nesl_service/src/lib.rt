@@ -8,4 +8,5 @@ pub mod crowd;
 mod front;
 mod opening;
 pub mod service;
+mod streams;
 pub mod wire;

@@ -6,21 +6,26 @@ use crate::accept::{Accepted, Acceptor};
 use crate::browse::{Page, PageAcceptor};
 use crate::crowd::{Start, run_crowd};
 use crate::front::Front;
+use crate::streams::{Listed, Streams, WholeLines};
 use crate::wire::{Patience, Reader, Writer, drain_after_shutdown};
 use nesl_eval_helpers::sparing::Sparing;
 use nesl_eval_helpers::{Common, Free, Gate, Pool};
+use nesl_house::lease::Receipt;
 use nesl_house::table::{CloseFault, Closed, Table};
 use nesl_line::MOST_HANDED;
 use nesl_line::device::{Device, Sink, Source};
 use nesl_line::exchange::End;
-use nesl_line::serve::{Served, serve};
+use nesl_line::keeper::{Archive, Unkept};
+use nesl_line::serve::{Room, Served, ServedAndKept, serve_and_keep};
 use nesl_service_records::accepting::AcceptFault;
 use nesl_service_records::answers::{AnswerObserver, ObservedWriter};
 use nesl_service_records::asking::ReportingHelpers;
 use nesl_service_records::journal::{Caller, Ending, Journal, Missed, NoJournal, Visit};
+use nesl_service_records::kept::{KeptSum, WatchedKeeper};
 use nesl_service_records::numbers::{Fault, Numbers};
 use nesl_service_records::receipts::Receipts;
 use nesl_service_records::watch::{Timed, Watch};
+use nesl_web_files::Lasting;
 use std::alloc::{AllocError, Global};
 use std::io::BufWriter;
 use std::marker::Brand;
@@ -44,14 +49,19 @@ pub enum ServeFault {
     /// The table could not be closed.
     #[error("serve: table fault")]
     Table,
+    /// A line could not be kept.
+    #[error("serve: keep fault")]
+    Keep,
 }
 
 impl ServeFault {
     fn of(fault: Fault) -> ServeFault
+        ensures keep { fault ≡ Fault.Keep → result ≡ ServeFault.Keep }
         ensures socket { fault ≡ Fault.Socket → result ≡ ServeFault.Socket }
         ensures memory { fault ≡ Fault.Memory → result ≡ ServeFault.Memory }
     {
         match fault {
+            Fault::Keep => ServeFault::Keep,
             Fault::Socket => ServeFault::Socket,
             Fault::Memory => ServeFault::Memory,
         }
@@ -75,27 +85,40 @@ pub struct Terms {
 }
 
 /// The observers of a service. The gate sees each place that an evaluation enters, and the journal each connection.
-#[derive(Clone, Copy)]
+#[derive_where(Clone, Copy)]
 pub struct Observers<'x, G, J> {
     pub gate: &'x G,
     pub journal: &'x J,
 }
 
+/// The lines of a connection that was served, the receipt for those that were restored before them, and what was kept
+/// of them, if sessions are kept.
+#[derive(Clone, Copy)]
+pub(crate) struct ServedLines {
+    pub(crate) served: Served,
+    pub(crate) restored: Option<Receipt>,
+    pub(crate) kept: Option<KeptSum>,
+}
+
 /// A connection that was served: its lines, and what did not come in time.
 #[derive(Clone, Copy)]
 pub(crate) struct ServedConnection {
-    pub(crate) served: Served,
+    pub(crate) lines: ServedLines,
     pub(crate) missed: Option<Missed>,
 }
 
 impl ServedConnection {
-    /// The result where memory for a connection's answers ran out.
-    pub(crate) fn without_memory() -> ServedConnection {
+    /// The result where nothing was read, by how the connection ended.
+    pub(crate) fn unread(end: End) -> ServedConnection {
         ServedConnection {
-            served: Served {
-                lines: 0,
-                receipt: None,
-                end: End::NoMemory,
+            lines: ServedLines {
+                served: Served {
+                    lines: 0,
+                    receipt: None,
+                    end,
+                },
+                restored: None,
+                kept: None,
             },
             missed: None,
         }
@@ -104,7 +127,7 @@ impl ServedConnection {
 
 /// What the threads of a service share.
 #[derive_where(Clone, Copy)]
-pub(crate) struct Service<'x, R, L: Ledger, G, J> {
+pub(crate) struct Service<'x, R, L: Ledger, G, J, A> {
     pub(crate) rt: &'x R,
     pub(crate) alloc: Global,
     acceptor: &'x Acceptor<'x>,
@@ -115,6 +138,8 @@ pub(crate) struct Service<'x, R, L: Ledger, G, J> {
     pool: &'x Pool<L>,
     common: &'x Common,
     start: &'x Start,
+    streams: &'x Streams,
+    archive: &'x A,
     pub(crate) terms: Terms,
     gate: &'x G,
     pub(crate) journal: &'x J,
@@ -126,7 +151,8 @@ impl<
     L: Ledger + Sync,
     G: Gate + Sync,
     J: Journal + Sync,
-> Service<'x, R, L, G, J> {
+    A: Archive + Sync,
+> Service<'x, R, L, G, J, A> {
     /// Gives out no more numbers, and ends all waits for connections.
     pub(crate) fn end(&self, fault: Fault) {
         self.numbers.lock(self.rt).end(fault);
@@ -145,6 +171,47 @@ impl<
         }
     }
 
+    /// How long sessions last.
+    pub(crate) fn lasting(&self) -> Lasting {
+        match self.archive.is_keeping() {
+            true => Lasting::Kept,
+            false => Lasting::InMemory,
+        }
+    }
+
+    /// Lists the stream of a connection that begins, if sessions are kept: after a line that could not be kept all
+    /// streams are shut down. Returns how the connection ends if it can't be listed.
+    pub(crate) fn list(&self, stream: &TcpStream) -> Result<Option<Listed>, End> {
+        if !self.archive.is_keeping() {
+            return Ok(None);
+        }
+        match self.streams.list(self.rt, stream) {
+            Ok(listed) => Ok(Some(listed)),
+            Err(end) => Err(end),
+        }
+    }
+
+    /// Lists the stream of a connection that has ended no longer.
+    pub(crate) fn unlist(&self, listed: Option<Listed>) {
+        if let Some(listed) = listed {
+            self.streams.unlist(self.rt, listed);
+        }
+    }
+
+    // Reports that the session of a user isn't kept. If a line of a seated user could not be kept, the service ends, so
+    // that nobody goes on with what isn't kept.
+    fn report_unkept(&self, served: &Served, unkept: Unkept) {
+        let user = self.name_of(unkept.place);
+        match served.receipt {
+            Some(_) => {
+                self.journal.keep_failed(user, unkept.fault);
+                self.end(Fault::Keep);
+                self.streams.shut_all(self.rt);
+            }
+            None => self.journal.not_taken_up(user, unkept.fault),
+        }
+    }
+
     // Whether a fault has ended the service.
     fn has_ended(&self) -> bool {
         self.numbers.lock(self.rt).fault.is_some()
@@ -159,35 +226,74 @@ impl<
             observer: AnswerObserver::new(&watch, self.journal, caller),
         };
         let Ok(writer) = BufWriter::with_capacity(self.alloc, ANSWER_BYTES, observed) else {
-            return ServedConnection::without_memory();
+            return ServedConnection::unread(End::NoMemory);
         };
-        let lines = Timed {
-            reader: Reader::new(self.rt, stream, patience),
-            watch: &watch,
+        let lines = WholeLines {
+            reader: Timed {
+                reader: Reader::new(self.rt, stream, patience),
+                watch: &watch,
+            },
+            streams: self.streams,
         };
         let mut reader = Device::new(Front::new(lines));
         let mut writer = Device::new(writer);
-        let served = self.serve(&mut reader, &mut writer);
+        let lines = self.serve(&mut reader, &mut writer);
         // Bytes that could not be written are dropped.
         let (observed, _) = writer.into_inner().into_parts();
-        let Timed { reader, .. } = reader.into_inner().into_inner();
+        let WholeLines { reader, .. } = reader.into_inner().into_inner();
+        let Timed { reader, .. } = reader;
         let missed = reader.missed();
         ServedConnection {
-            served,
+            lines,
             missed: missed.or(observed.writer.missed()),
         }
     }
 
     /// Serves the lines of one connection by the session of the user that the first line names.
-    pub(crate) fn serve<S: Source, W: Sink>(&self, reader: &mut S, writer: &mut W) -> Served {
+    pub(crate) fn serve<S: Source, W: Sink>(&self, reader: &mut S, writer: &mut W) -> ServedLines {
         let helpers = ReportingHelpers {
             helpers: self.pool.by(self.rt),
             journal: self.journal,
         };
         let sparing = Sparing::new(self.rt, helpers, self.terms.workers, self.common);
-        serve(
-            self.rt, self.alloc, reader, writer, self.table, &sparing, self.gate,
-        )
+        let room = Room {
+            alloc: self.alloc,
+            table: self.table,
+            helpers: &sparing,
+            gate: self.gate,
+        };
+        let is_keeping = self.archive.is_keeping();
+        let mut keeper = WatchedKeeper::new(
+            self.archive.keeper(),
+            self.rt,
+            self.journal,
+            is_keeping,
+        );
+        let ServedAndKept {
+            served,
+            restored,
+            fault,
+        } = serve_and_keep(self.rt, reader, writer, &mut keeper, &room);
+        if let Some(unkept) = fault {
+            self.report_unkept(&served, unkept);
+        }
+        ServedLines {
+            served,
+            restored,
+            kept: if is_keeping { Some(keeper.sum()) } else { None },
+        }
+    }
+
+    // Serves one connection. Meanwhile its stream is listed, if sessions are kept.
+    fn serve_listed(&self, caller: Caller, stream: &TcpStream) -> ServedConnection {
+        match self.list(stream) {
+            Ok(listed) => {
+                let attended = self.serve_connection(caller, stream);
+                self.unlist(listed);
+                attended
+            }
+            Err(end) => ServedConnection::unread(end),
+        }
     }
 
     // Serves a connection, and reports its start and its end to the journal.
@@ -196,14 +302,14 @@ impl<
         let since = Instant::now(self.rt).ok();
         // Answers are sent without delay, if the system allows it.
         let _ = stream.set_nodelay(true).is_ok();
-        let attended = self.serve_connection(caller, stream);
-        if was_turned_away(&attended.served) {
+        let attended = self.serve_listed(caller, stream);
+        if was_turned_away(&attended.lines.served) {
             let _ = drain_after_shutdown(self.rt, stream).is_ok();
         }
         self.end_connection(caller, since, &attended);
     }
 
-    /// Reports the end of a connection to the journal, and adds its receipt. A receipt that can't be added ends the
+    /// Reports the end of a connection to the journal, and adds its receipts. A receipt that can't be added ends the
     /// service.
     pub(crate) fn end_connection(
         &self,
@@ -220,7 +326,13 @@ impl<
             ..self.visit(attended)
         };
         self.journal.ended(caller, &visit);
-        if let Some(receipt) = attended.served.receipt {
+        self.take_in(attended.lines.restored);
+        self.take_in(attended.lines.served.receipt);
+    }
+
+    // Adds a receipt, if there is one.
+    fn take_in(&self, receipt: Option<Receipt>) {
+        if let Some(receipt) = receipt {
             if !self.receipts.lock(self.rt).take_in(receipt) {
                 self.end(Fault::Memory);
             }
@@ -229,7 +341,7 @@ impl<
 
     // Describes a connection that has ended, without its time.
     fn visit(&self, attended: &ServedConnection) -> Visit<'x> {
-        let served = &attended.served;
+        let served = &attended.lines.served;
         let user = match served.receipt {
             Some(receipt) => self.name_of(receipt.place),
             None => None,
@@ -239,6 +351,7 @@ impl<
             lines: served.lines,
             ending: Ending::of(served.end, was_turned_away(served), attended.missed),
             took: None,
+            kept: attended.lines.kept,
         }
     }
 
@@ -317,8 +430,8 @@ impl<
 
     // Runs all threads, and joins them.
     fn run_all(&self) {
-        let work = |it: &Service<R, L, G, J>| it.work();
-        let lead = |it: &Service<R, L, G, J>, made: usize| it.open(made);
+        let work = |it: &Service<R, L, G, J, A>| it.work();
+        let lead = |it: &Service<R, L, G, J, A>, made: usize| it.open(made);
         run_crowd(self.rt, self, self.threads(), &work, &lead);
     }
 }
@@ -359,21 +472,29 @@ fn page_acceptor_of(page: Option<Page<'_>>) -> io::Result<Option<PageAcceptor<'_
     }
 }
 
+/// What a service is to do: the page that it shows, its terms, who observes it, and where its sessions are kept.
+#[derive_where(Clone, Copy)]
+struct Plan<'x, G, J, A> {
+    page: Option<Page<'x>>,
+    terms: Terms,
+    observers: Observers<'x, G, J>,
+    archive: &'x A,
+}
+
 // Serves over a pool made from this blank ledger.
 fn serve_in<
     L: Ledger + Send + Sync,
     R: Threads + Wait + Clock + Sync,
     G: Gate + Sync,
     J: Journal + Sync,
+    A: Archive + Sync,
 >(
     site: Site<'_, R>,
-    page: Option<Page<'_>>,
     table: Table,
-    terms: Terms,
-    observers: Observers<'_, G, J>,
+    plan: Plan<'_, G, J, A>,
     blank: Blank,
 ) -> Result<Closed, ServeFault>
-    requires { (blank.name ≡ L.name) × (blank.parts ≡ L.parts) × (blank.parts ≡ terms.workers) }
+    requires { (blank.name ≡ L.name) × (blank.parts ≡ L.parts) × (blank.parts ≡ plan.terms.workers) }
     ensures { IfOk result (λ c. IsClosed table.roster c.house c.lines) }
 {
     let Site {
@@ -381,10 +502,11 @@ fn serve_in<
         alloc,
         listener,
     } = site;
+    let terms = plan.terms;
     let Ok(acceptor) = Acceptor::new(listener, terms.connections) else {
         return Err(ServeFault::Socket);
     };
-    let Ok(page) = page_acceptor_of(page) else {
+    let Ok(page) = page_acceptor_of(plan.page) else {
         return Err(ServeFault::Socket);
     };
     let start = Start::new();
@@ -394,6 +516,7 @@ fn serve_in<
     let receipts = Mutex::new(receipts);
     let pool: Pool<L> = Pool::new(terms.workers, blank);
     let common = Common::new(processors(rt));
+    let streams = Streams::new(alloc);
     let numbers = Mutex::new(Numbers::new(terms.connections.unwrap_or(u64::MAX)));
     let service = Service {
         rt,
@@ -406,9 +529,11 @@ fn serve_in<
         pool: &pool,
         common: &common,
         start: &start,
+        streams: &streams,
+        archive: plan.archive,
         terms,
-        gate: observers.gate,
-        journal: observers.journal,
+        gate: plan.observers.gate,
+        journal: plan.observers.journal,
     };
     service.run_all();
     if let Some(fault) = numbers.into_inner().fault {
@@ -472,21 +597,37 @@ pub fn serve_through<R: Threads + Wait + Clock + Sync, G: Gate + Sync, J: Journa
         alloc,
         listener,
     };
-    serve_at(site, None, table, terms, observers)
+    serve_at(site, None, table, terms, observers, &())
 }
 
 /// Serves users like `serve_through`, and browsers too if there is a page: its files, and users over WebSockets.
 /// Connections of browsers don't count for `terms.connections`. After the last counted connection no browser is
 /// accepted, and the service ends when those that were accepted have left.
-pub fn serve_at<R: Threads + Wait + Clock + Sync, G: Gate + Sync, J: Journal + Sync>(
+///
+/// The sessions are kept in an archive. The session of a user is taken up from there at the first line of each
+/// connection. The lines that are restored then count for the closed table, too. If a line can't be kept, it gets no
+/// answer, all connections are shut down, and the service fails.
+pub fn serve_at<
+    R: Threads + Wait + Clock + Sync,
+    G: Gate + Sync,
+    J: Journal + Sync,
+    A: Archive + Sync,
+>(
     site: Site<'_, R>,
     page: Option<Page<'_>>,
     table: Table,
     terms: Terms,
     observers: Observers<'_, G, J>,
+    archive: &A,
 ) -> Result<Closed, ServeFault>
     ensures { IfOk result (λ c. IsClosed table.roster c.house c.lines) }
 {
     let blank = Blank::new(u64::from(terms.workers));
-    serve_in::<Brand, R, G, J>(site, page, table, terms, observers, blank)
+    let plan = Plan {
+        page,
+        terms,
+        observers,
+        archive,
+    };
+    serve_in::<Brand, R, G, J, A>(site, table, plan, blank)
 }

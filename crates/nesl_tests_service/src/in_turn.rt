@@ -78,7 +78,12 @@ fn no_connection_is_served_where_none_is_wanted(rt: HostRuntime) -> Result<(), F
 
 fn fault_texts(alloc: Global) -> Result<String, AllocError> {
     let mut text = String::new(alloc);
-    for fault in [ServeFault::Socket, ServeFault::Memory, ServeFault::Table] {
+    for fault in [
+        ServeFault::Socket,
+        ServeFault::Memory,
+        ServeFault::Table,
+        ServeFault::Keep,
+    ] {
         write!(text, "{fault}, ")?;
     }
     Ok(text)
@@ -86,7 +91,7 @@ fn fault_texts(alloc: Global) -> Result<String, AllocError> {
 
 #[test]
 fn faults_have_texts(rt: HostRuntime) -> Result<(), Fail> {
-    let wanted = "serve: socket fault, serve: no memory, serve: table fault, ";
+    let wanted = "serve: socket fault, serve: no memory, serve: table fault, serve: keep fault, ";
     assert!(rt; fault_texts(rt.alloc())?.as_str() == wanted);
     Ok(())
 }
