@@ -10,7 +10,7 @@ use Rattle.nesl_service.specs.declared.service.ServeFault.TheVariants as serve_f
 use Rattle.nesl_cli.specs.declared.failure.Failure.{Failure}
 use Rattle.nesl_cli.specs.declared.failure.Failure.TheVariants.{Read, Write, Memory, Serve}
 use Rattle.nesl_cli.specs.declared.failure.Failure.TheVariants.{Count, Name, Twice, Encoding}
-use Rattle.nesl_cli.specs.declared.failure.Failure.TheVariants.{Costs, Value, Taken, Stats, Prompt}
+use Rattle.nesl_cli.specs.declared.failure.Failure.TheVariants.{Costs, Value, Taken, Stats, Folder, Prompt}
 use Rattle.nesl_cli.specs.declared.prompt.PromptFault.TheVariants as prompt_fault
 use Rattle.nesl_cli.specs.declared.prompt.PromptFault.{PromptFault}
 
@@ -28,6 +28,7 @@ status_of (Costs fault) = 1
 status_of (Value text) = 2
 status_of (Taken port) = 1
 status_of (Stats file fault) = 1
+status_of (Folder folder fault) = 1
 status_of (Prompt fault) = 1
 
 -- 0 where an offered service ended well

@@ -21,7 +21,7 @@ use Rattle.nesl_cli.specs.declared.run.Offer.{Offer}
 use Rattle.nesl_cli.specs.declared.failure.Failure.{Failure}
 use Rattle.nesl_cli.specs.declared.failure.Failure.TheVariants.{Read, Write, Memory, Serve}
 use Rattle.nesl_cli.specs.declared.failure.Failure.TheVariants.{Count, Name, Twice, Encoding}
-use Rattle.nesl_cli.specs.declared.failure.Failure.TheVariants.{Costs, Value, Taken, Stats}
+use Rattle.nesl_cli.specs.declared.failure.Failure.TheVariants.{Costs, Value, Taken, Stats, Folder}
 use Rattle.nesl_cli.specs.declared.failure.Failure.TheVariants as failed_as
 use Rattle.nesl_cli.specs.declared.prompt.PromptFault.TheVariants as prompt_fault
 use Rattle.nesl_cli.specs.Failures.{prompt_failure_of}
@@ -81,6 +81,7 @@ BatchFails (Serve fault) is_hinted users left left' held held' = ⊥
 BatchFails Encoding is_hinted users left left' held held' = ⊥
 BatchFails (Taken port) is_hinted users left left' held held' = ⊥
 BatchFails (Stats file fault) is_hinted users left left' held held' = ⊥
+BatchFails (Folder folder fault) is_hinted users left left' held held' = ⊥
 BatchFails (failed_as.Prompt fault) is_hinted users left left' held held' = ⊥
 BatchFails (Costs fault) is_hinted users left left' held held' = Unit {0}
 BatchFails (Value text) is_hinted users left left' held held' = Untouched left left' held held'

@@ -18,6 +18,7 @@ service_wanted service = record {
   first_line = service.first_line;
   is_logged = service.is_logged;
   stats = option_map (λ file. file.now) service.stats;
+  keep = option_map (λ folder. folder.now) service.keep;
 }
 
 -- what is to be done

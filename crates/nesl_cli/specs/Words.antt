@@ -104,12 +104,16 @@ log_rule = record (new_rule (codes "LOG")) {
 abbrev pub stats_rule : Rule
 stats_rule = text_rule (codes "FILE") (codes "stats")
 
+-- `--keep FOLDER`: a text, at most once
+abbrev pub keep_rule : Rule
+keep_rule = text_rule (codes "FOLDER") (codes "keep")
+
 -- the subcommand `serve --port P --workers W [--connections N] [--web PORT] [--web-host NAME] [--idle SECONDS]
--- [--first-line SECONDS] [--log] [--stats FILE] USER..`
+-- [--first-line SECONDS] [--log] [--stats FILE] [--keep FOLDER] USER..`
 abbrev pub serve : Shape
 serve = record (new_shape (codes "serve")) {
   rules = port_rule ∷ workers_rule ∷ connections_rule ∷ web_rule ∷ web_host_rule ∷ idle_rule ∷ first_line_rule
-      ∷ log_rule ∷ stats_rule ∷ users_rule ∷ [];
+      ∷ log_rule ∷ stats_rule ∷ keep_rule ∷ users_rule ∷ [];
 }
 
 -- the program before its subcommands: one is required, help is shown where there are no words, and it has a version
@@ -171,7 +175,8 @@ pub record Costs : Type 0 where
 
 -- A service. It has a port, and the number of helpers that its threads share. It may have a number of connections after
 -- which it ends, a port for its page, and a further name for that. It may have a number of seconds for lines and
--- answers, and one for first lines. It has a flag for the log, and maybe a file for its counters.
+-- answers, and one for first lines. It has a flag for the log, and maybe a file for its counters, and a folder where
+-- sessions are kept.
 pub record Service : Type 0 where
   pub port : Option ℕ
   pub workers : Option ℕ
@@ -182,6 +187,7 @@ pub record Service : Type 0 where
   pub first_line : Option ℕ
   pub is_logged : Bool
   pub stats : Option (List ℕ)
+  pub keep : Option (List ℕ)
 
 -- what is to be done
 pub data Task : Type 0 where
@@ -209,6 +215,7 @@ service_among rows = record {
   first_line = number_among (codes "FIRST") rows;
   is_logged = is_among (codes "LOG") rows;
   stats = text_among (codes "FILE") rows;
+  keep = text_among (codes "FOLDER") rows;
 }
 
 -- by the subcommand and what was found after it
@@ -309,6 +316,7 @@ served_twice :
       first_line = None;
       is_logged = false;
       stats = None;
+      keep = None;
     })
 unfolding walked
 served_twice = refl
@@ -317,7 +325,7 @@ served_on :
     task_of
     (asked (codes "serve" ∷ codes "--workers=0" ∷ codes "--idle=60" ∷ codes "ann" ∷ codes "--log" ∷ codes "--port=4000"
     ∷ codes "--web=8080" ∷ codes "--web-host" ∷ codes "nesl.example" ∷ codes "--first-line=5" ∷ codes "--stats"
-    ∷ codes "counters" ∷ []))
+    ∷ codes "counters" ∷ codes "--keep=sessions" ∷ []))
     ≡ a_service (record {
       port = Some 4000;
       workers = Some 0;
@@ -328,6 +336,7 @@ served_on :
       first_line = Some 5;
       is_logged = true;
       stats = Some (codes "counters");
+      keep = Some (codes "sessions");
     })
 unfolding walked
 served_on = refl

@@ -12,6 +12,7 @@ use nesl_house::roster::NewFault;
 use nesl_line::exchange::End;
 use nesl_prompt::shelf::ShelfFault;
 use nesl_service::service::ServeFault;
+use nesl_service_records::system::SystemError;
 use thiserror::Error;
 
 /// Why a run failed. Its text goes to standard error.
@@ -45,9 +46,26 @@ pub enum Failure<'a> {
     /// The counters of a service can't be written into this file, for this reason.
     #[error("serve: can't write {0}\n{1}")]
     Stats(&'a str, ShelfFault),
+    /// Sessions can't be kept in this folder, for this reason.
+    #[error("serve: can't keep sessions in {0}\n{1}")]
+    Folder(&'a str, FolderRefusal),
     /// A prompt ended before the end of input.
     #[error("{0}")]
     Prompt(PromptFault),
+}
+
+/// Why sessions can't be kept in a folder.
+#[derive(Clone, Copy, PartialEq, Eq, Debug, Error)]
+pub enum FolderRefusal {
+    #[error("another process serves this folder")]
+    Taken,
+    #[error("it isn't a folder")]
+    NotAFolder,
+    #[error("the system refuses it: {0}")]
+    Failed(SystemError),
+    /// The system gave no number for its error.
+    #[error("the system refuses it")]
+    Refused,
 }
 
 /// Why a command line led to no complete run.
@@ -107,7 +125,8 @@ impl<'a> Failure<'a> {
         match self {
             Failure::Read | Failure::Write | Failure::Memory | Failure::Serve(_) => 1,
             Failure::Encoding | Failure::Count | Failure::Name(_) | Failure::Twice(_) => 2,
-            Failure::Costs(_) | Failure::Taken(_) | Failure::Stats(_, _) | Failure::Prompt(_) => 1,
+            Failure::Costs(_) | Failure::Taken(_) | Failure::Prompt(_) => 1,
+            Failure::Stats(_, _) | Failure::Folder(_, _) => 1,
             Failure::Value(_) => 2,
         }
     }

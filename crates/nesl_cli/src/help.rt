@@ -64,6 +64,11 @@ Writes how the service is doing into this
 file, as one line of JSON, every ten seconds
 and at the end";
 
+pub(crate) const KEEP: &str = "\
+Keeps the sessions in files of this folder,
+one for each user: a line is on the disk
+before its answer is written";
+
 pub(crate) const REPL: &str = "\
 Opens a session of one's own, with a prompt, help, and hints below
 faults";
@@ -114,12 +119,14 @@ answered by one line, as in
 With --web it prints `page at http://127.0.0.1:8080/` below that: open this in
 a browser.
 
-A user has one connection at a time, and the session waits for the next. There
-are no passwords, so it listens to this machine only; docs/OPERATING.md says
-how to let others in, and what that costs.
+A user has one connection at a time, and the session waits for the next. With
+--keep it also waits for the next service on that folder. There are no
+passwords, so it listens to this machine only; docs/OPERATING.md says how to
+let others in, and what that costs.
 
 Exit status: 0 after the last of the connections, 1 if a socket or memory
-failed, 2 if the words or the users' names are wrong.";
+failed, or a line could not be kept, 2 if the words or the users' names are
+wrong.";
 
 pub(crate) const REPL_AFTER: &str = "\
 A form may go on over several lines, until its `;` or an empty line. It is

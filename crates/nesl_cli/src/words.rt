@@ -7,7 +7,7 @@ ghost use Rattle.clap.specs.Simple.{App, Shape, with_subcommand};
 ghost use Rattle.clap.specs.Words.{app_of, fault_of, FailsBy, subcommand_rows_of};
 ghost use Rattle.nesl_cli.specs.Shapes.{IsShaped, with_rule};
 ghost use Rattle.nesl_cli.specs.Words.{batch, connections_rule, csv_rule, files_rule, first_line_rule, heap_rule};
-ghost use Rattle.nesl_cli.specs.Words.{hints_rule, idle_rule, is_among, log_rule, number_among, number_rule};
+ghost use Rattle.nesl_cli.specs.Words.{hints_rule, idle_rule, is_among, keep_rule, log_rule, number_among, number_rule};
 ghost use Rattle.nesl_cli.specs.Words.{port_rule, program, repl, serve, service_among, stats_rule, task_among};
 ghost use Rattle.nesl_cli.specs.Words.{web_host_rule, web_rule, batch_among, task_in, task_of, text_among};
 ghost use Rattle.nesl_cli.specs.Words.{text_rule, users_among, users_in, users_of, users_rule};
@@ -69,7 +69,7 @@ pub enum Task<'a> {
 ///
 /// The times are in seconds. A line has `idle` seconds to arrive whole, and so has each piece of an answer to be taken.
 /// The first line of a connection has `first_line` seconds. A connection that takes longer is ended. With `is_logged`
-/// each connection is logged, and `stats` is the file for the counters.
+/// each connection is logged, and `stats` is the file for the counters. `keep` is the folder where sessions are kept.
 #[derive(Clone, Copy, PartialEq, Eq, Debug)]
 pub struct Service<'a> {
     pub port: Option<usize>,
@@ -81,6 +81,7 @@ pub struct Service<'a> {
     pub first_line: Option<usize>,
     pub is_logged: bool,
     pub stats: Option<&'a str>,
+    pub keep: Option<&'a str>,
 }
 
 /// What the command line asks for, and for which users, in order.
@@ -191,7 +192,8 @@ fn serve<'a>(alloc: Global) -> Result<Command<'a>, AllocError>
     let with_first_line = with_option(with_idle, first_line(alloc));
     let with_log = with_option(with_first_line, log(alloc));
     let with_stats = with_option(with_log, stats(alloc));
-    with_option(with_stats, user(alloc))
+    let with_keep = with_option(with_stats, keep(alloc));
+    with_option(with_keep, user(alloc))
 }
 
 fn port<'a>(alloc: Global) -> Arg<'a>
@@ -273,6 +275,13 @@ fn stats<'a>(alloc: Global) -> Arg<'a>
     ensures local { result.global ≡ false }
 {
     text(alloc, "FILE", "stats", help::STATS)
+}
+
+fn keep<'a>(alloc: Global) -> Arg<'a>
+    ensures rule { rule_of result ≡ keep_rule }
+    ensures local { result.global ≡ false }
+{
+    text(alloc, "FOLDER", "keep", help::KEEP)
 }
 
 fn csv<'a>(alloc: Global) -> Arg<'a>
@@ -412,6 +421,7 @@ fn service_found<'a>(matches: &ArgMatches<'a>) -> Service<'a>
         first_line: number_option(matches, "FIRST"),
         is_logged: has_flag(matches, "LOG"),
         stats: text_option(matches, "FILE"),
+        keep: text_option(matches, "FOLDER"),
     }
 }
 

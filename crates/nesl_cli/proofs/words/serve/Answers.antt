@@ -1,6 +1,6 @@
 use Rattle.std.proofs.Common.{◌∙◌, ap, codes}
 use Rattle.clap.specs.Simple.{new_shape, shape_of_fields}
-use Rattle.nesl_cli.specs.Words.{port_rule, workers_rule, connections_rule, web_rule, web_host_rule, idle_rule, first_line_rule, log_rule, stats_rule, users_rule}
+use Rattle.nesl_cli.specs.Words.{port_rule, workers_rule, connections_rule, web_rule, web_host_rule, idle_rule, first_line_rule, log_rule, stats_rule, keep_rule, users_rule}
 use Rattle.nesl_cli.specs.Shapes.{IsShaped}
 use Rattle.nesl_cli.proofs.words.serve.Goals as goal
 
@@ -19,4 +19,5 @@ returns c =
     let has_first_line = c.with_option-with_first_line.ensures _ first_line_rule c.first_line.ensures.rule has_idle in
     let has_log = c.with_option-with_log.ensures _ log_rule c.log.ensures.rule has_first_line in
     let has_stats = c.with_option-with_stats.ensures _ stats_rule c.stats.ensures.rule has_log in
-    c.with_option.ensures _ users_rule c.user.ensures.rule has_stats
+    let has_keep = c.with_option-with_keep.ensures _ keep_rule c.keep.ensures.rule has_stats in
+    c.with_option.ensures _ users_rule c.user.ensures.rule has_keep
