@@ -2,11 +2,14 @@
 
 use crate::log::Log;
 use crate::stats::{Replace, Stats};
+use nesl_line::keeper::KeepFault;
 use nesl_service_records::accepting::AcceptFault;
 use nesl_service_records::counters::Counters;
 use nesl_service_records::journal::{Answered, Caller, Journal, Seat, Visit};
+use nesl_service_records::keeping::{KeepFailure, KeepReason, name_shown};
+use nesl_service_records::kept::KeptLine;
 use std::io;
-use std::io::Print;
+use std::io::{Eprint, Print};
 use std::sync::{Arc, Wait};
 use std::time::Clock;
 
@@ -19,10 +22,11 @@ pub struct Ports {
 }
 
 /// The journal of the program. It prints the ports, logs connections if there is a log, and counts for the file of
-/// counters.
+/// counters. `folder` is the one where sessions are kept, if they are.
 pub struct Host<'x, R> {
     pub rt: &'x R,
     pub ports: Ports,
+    pub folder: Option<&'x str>,
     pub log: Option<Log<'x, R>>,
     pub stats: Option<Stats<'x, R>>,
     pub counters: Arc<Counters>,
@@ -34,6 +38,7 @@ impl<R: Wait + Clock + Replace> Host<'_, R> {
         let Host {
             rt: _,
             ports: _,
+            folder: _,
             log,
             stats,
             counters: _,
@@ -58,8 +63,39 @@ impl<R: Print> Host<'_, R> {
     }
 }
 
-impl<R: Print + Wait + Clock> Journal for Host<'_, R> {
+impl<R: Wait + Clock> Host<'_, R> {
+    // Notes the folder where sessions are kept, if they are.
+    fn note_folder(&self) {
+        if let Some(folder) = self.folder {
+            self.counters.keep();
+            if let Some(log) = &self.log {
+                self.counters.logged(log.log_folder(folder));
+            }
+        }
+    }
+
+    // Logs why the session of a user isn't kept.
+    fn log_unkept(&self, user: Option<&[u8]>, fault: KeepFault) {
+        if let Some(log) = &self.log {
+            self.counters
+                .logged(log.log_unkept(KeepFailure { user, fault }));
+        }
+    }
+}
+
+impl<R: Eprint> Host<'_, R> {
+    // Prints which file a line could not be written to, and why.
+    fn print_unkept(&self, user: Option<&[u8]>, fault: KeepFault) -> io::Result<()> {
+        let folder = self.folder.unwrap_or("");
+        let name = name_shown(user);
+        let reason = KeepReason { fault };
+        eprintln!(self.rt; "{folder}/{name}: {reason}")
+    }
+}
+
+impl<R: Print + Eprint + Wait + Clock> Journal for Host<'_, R> {
     fn opened(&self) -> bool {
+        self.note_folder();
         self.print_ports().is_ok()
     }
 
@@ -96,9 +132,23 @@ impl<R: Print + Wait + Clock> Journal for Host<'_, R> {
         self.counters.asked(is_granted);
     }
 
+    fn kept(&self, kept: KeptLine) {
+        self.counters.kept(kept);
+    }
+
     fn accept_failed(&self, fault: AcceptFault) {
         if let Some(log) = &self.log {
             self.counters.logged(log.log_fault(fault));
         }
+    }
+
+    fn not_taken_up(&self, user: Option<&[u8]>, fault: KeepFault) {
+        self.counters.not_taken_up();
+        self.log_unkept(user, fault);
+    }
+
+    fn keep_failed(&self, user: Option<&[u8]>, fault: KeepFault) {
+        self.log_unkept(user, fault);
+        let _ = self.print_unkept(user, fault).is_ok();
     }
 }

@@ -1,13 +1,17 @@
 //! The log of connections on standard error.
 
+use crate::strangers::{LeftOut, Strangers};
 use crossbeam_channel::{Receiver, Sender, bounded};
 use jiff_core::civil::DateTime;
 use nesl_service_records::accepting::AcceptFault;
 use nesl_service_records::journal::{Caller, Seat, Visit};
+use nesl_service_records::keeping::KeepFailure;
+use nesl_service_records::kept::KeptSum;
 use std::alloc::{AllocError, Global};
+use std::fmt::Write;
 use std::io::Eprint;
 use std::sync::atomic::{AtomicU64, Ordering};
-use std::sync::{Arc, Wait};
+use std::sync::{Arc, Mutex, Wait};
 use std::thread::Threads;
 use std::time::{Clock, Duration};
 use std::{fmt, thread};
@@ -22,12 +26,14 @@ const PAUSE_MILLIS: u64 = 10;
 const MOST_PAUSES: u32 = 100;
 
 /// The log. A thread of its own writes the lines to standard error, so that a slow reader delays no connection. A line
-/// that can't be queued is lost; the thread logs how many were.
+/// that can't be queued is lost; the thread logs how many were. Lines about connections without a seat are left out if
+/// there are too many, and a line a second says how many.
 pub struct Log<'x, R> {
     rt: &'x R,
     alloc: Global,
     to: Sender<String>,
     counts: Arc<Counts>,
+    strangers: Mutex<Strangers>,
 }
 
 // The number of lost lines that weren't logged yet, and whether the last line was written.
@@ -85,6 +91,7 @@ impl<'x, R: Threads + Wait + Clock + Eprint + Clone + Send + Drop + 'static> Log
                 alloc,
                 to,
                 counts,
+                strangers: Mutex::new(Strangers::new()),
             }),
             Err(_) => Err(AllocError),
         }
@@ -94,11 +101,14 @@ impl<'x, R: Threads + Wait + Clock + Eprint + Clone + Send + Drop + 'static> Log
 impl<R: Wait + Clock> Log<'_, R> {
     /// Ends the log. Waits at most a second until all lines are written.
     pub fn close(self) {
+        let note = self.strangers.lock(self.rt).last_note();
+        let _ = self.log_note(note);
         let Log {
             rt,
             alloc: _,
             to,
             counts,
+            strangers: _,
         } = self;
         drop(to);
         for _ in 0..MOST_PAUSES {
@@ -111,23 +121,77 @@ impl<R: Wait + Clock> Log<'_, R> {
 
     /// Logs the start of a connection. This and the methods below return false if the line is lost.
     pub fn log_begin(&self, caller: Caller) -> bool {
-        self.log_event(caller, String::from_str(self.alloc, "began"))
+        self.log_stranger(caller, String::from_str(self.alloc, "began"))
     }
 
     /// Logs the user of a connection, or why it was turned away.
     pub fn log_seat(&self, caller: Caller, seat: Seat<'_>) -> bool {
-        self.log_event(caller, describe_seat(self.alloc, seat))
+        let what = describe_seat(self.alloc, seat);
+        match seat {
+            Seat::User(_) => self.log_event(caller, what),
+            Seat::Unknown | Seat::Busy => self.log_stranger(caller, what),
+        }
     }
 
     /// Logs the end of a connection.
     pub fn log_end(&self, caller: Caller, visit: &Visit<'_>) -> bool {
-        self.log_event(caller, describe_end(self.alloc, visit))
+        let what = describe_end(self.alloc, visit);
+        match visit.user {
+            Some(_) => self.log_event(caller, what),
+            None => self.log_stranger(caller, what),
+        }
     }
 
     /// Logs why the service stopped accepting connections.
     pub fn log_fault(&self, fault: AcceptFault) -> bool {
         let stamp = Stamp::now(self.rt);
         self.queue(format!(in self.alloc; "{stamp} {fault}"))
+    }
+
+    /// Logs the folder where sessions are kept.
+    pub fn log_folder(&self, folder: &str) -> bool {
+        let stamp = Stamp::now(self.rt);
+        self.queue(format!(in self.alloc; "{stamp} sessions are kept in {folder}"))
+    }
+
+    /// Logs why the session of a user isn't kept.
+    pub fn log_unkept(&self, failure: KeepFailure<'_>) -> bool {
+        let stamp = Stamp::now(self.rt);
+        self.queue(format!(in self.alloc; "{stamp} {failure}"))
+    }
+
+    // Logs an event of a connection without a seat, unless there were too many. Once a second it logs how many were
+    // left out.
+    fn log_stranger(&self, caller: Caller, what: Result<String, AllocError>) -> bool {
+        let second = match self.rt.since_1970() {
+            Ok(since) => since.as_secs(),
+            Err(_) => 0,
+        };
+        let mut strangers = self.strangers.lock(self.rt);
+        let note = strangers.due_note(second);
+        let is_admitted = strangers.admit(second);
+        drop(strangers);
+        let is_queued = self.log_note(note);
+        match is_admitted {
+            true => self.log_event(caller, what) && is_queued,
+            false => is_queued,
+        }
+    }
+
+    // Logs how many lines about connections without a seat were left out. Returns false if that line is lost; then the
+    // next one counts them.
+    fn log_note(&self, note: Option<LeftOut>) -> bool {
+        let Some(note) = note else {
+            return true;
+        };
+        let (stamp, LeftOut(count)) = (Stamp::now(self.rt), note);
+        let is_queued = self.queue(format!(in self.alloc;
+            "{stamp} connections without a seat: {count} lines left out"
+        ));
+        if !is_queued {
+            self.strangers.lock(self.rt).put_back(note);
+        }
+        is_queued
     }
 
     // Logs an event of a connection.
@@ -194,18 +258,28 @@ fn describe_seat(alloc: Global, seat: Seat<'_>) -> Result<String, AllocError> {
     }
 }
 
-// Describes the end of a connection: its user, its lines, why it ended, and how long it took.
+// Describes the end of a connection: its user, its lines, why it ended, how long it took, and what was kept of it.
 fn describe_end(alloc: Global, visit: &Visit<'_>) -> Result<String, AllocError> {
     let user = match visit.user {
         Some(name) => str::from_utf8(name).unwrap_or("?"),
         None => "no user",
     };
     let (lines, ending) = (visit.lines, visit.ending.words());
-    match visit.took {
-        Some(took) => {
-            let millis = took.as_millis();
-            format!(in alloc; "ended: {user}, {lines} lines, {ending}, {millis} ms")
-        }
-        None => format!(in alloc; "ended: {user}, {lines} lines, {ending}"),
+    let mut text = format!(in alloc; "ended: {user}, {lines} lines, {ending}")?;
+    if let Some(took) = visit.took {
+        let millis = took.as_millis();
+        write!(text, ", {millis} ms")?;
     }
+    if let Some(kept) = visit.kept {
+        let KeptSum {
+            lines,
+            bytes,
+            micros,
+        } = kept;
+        write!(
+            text,
+            ", kept {lines} lines and {bytes} bytes in {micros} us"
+        )?;
+    }
+    Ok(text)
 }

@@ -13,6 +13,7 @@ mod offer;
 mod replace;
 mod standard;
 mod stats;
+mod strangers;
 
 use crate::disk::Disk;
 use crate::standard::fill_standard;
@@ -22,6 +23,7 @@ use nesl_cli::failure::{Failure, Refusal, status_after, words_status};
 use nesl_cli::prompt::{PromptDevices, Terminals};
 use nesl_cli::run;
 use nesl_cli::words::example;
+use nesl_keep_file::Storage;
 use nesl_line::device::{Device, Sink, Source};
 use nesl_prompt::shelf::Shelf;
 use nesl_service::crowd::STACK_BYTES;
@@ -123,6 +125,7 @@ fn run_program<
         + Clock
         + Print
         + Eprint
+        + Storage
         + Replace
         + Clone
         + Drop

@@ -7,16 +7,20 @@ ghost use Rattle.nesl_cli.specs.declared.failure.Failure.TheVariants.{Serve};
 use crate::host::{Host, Ports};
 use crate::log::Log;
 use crate::stats::{Replace, Stats};
-use nesl_cli::failure::Failure;
+use nesl_cli::failure::{Failure, FolderRefusal};
 use nesl_cli::run::{LIMITS, Offer, copy_names};
 use nesl_cli::terms::local_address;
 use nesl_eval_helpers::Free;
 use nesl_house::roster::NewFault;
 use nesl_house::table::{Closed, Table};
+use nesl_keep_file::{Files as UserFiles, FolderFault, Storage};
+use nesl_keeper::keeper::KeptFiles;
+use nesl_line::keeper::Archive;
 use nesl_prompt::shelf::ShelfFault;
 use nesl_service::browse::Page;
 use nesl_service::service::{Observers, ServeFault, Site, serve_at};
 use nesl_service_records::counters::Counters;
+use nesl_service_records::system::SystemError;
 use std::alloc::{AllocError, Global};
 use std::io;
 use std::io::{Eprint, Print};
@@ -25,8 +29,36 @@ use std::sync::{Arc, Wait};
 use std::thread::Threads;
 use std::time::Clock;
 
-/// Runs the offered service to its end. Prints the ports once it can serve, and how much was served if it ends.
+/// Runs the offered service to its end. Prints the ports once it can serve, and how much was served if it ends. If the
+/// sessions are to be kept in a folder, that is locked before a port is listened to.
 pub fn keep<
+    'a,
+    R: Net<Stream = TcpStream, Listener = TcpListener>
+        + Threads
+        + Wait
+        + Clock
+        + Print
+        + Eprint
+        + Storage
+        + Replace
+        + Clone
+        + Drop
+        + Send
+        + Sync
+        + 'static,
+>(rt: &R, alloc: Global, offer: &Offer<'a>) -> Result<(), Failure<'a>> {
+    let table = make_table(alloc, offer.users.as_slice())?;
+    match offer.service.keep {
+        Some(folder) => match UserFiles::lock(rt, alloc, folder) {
+            Ok(files) => keep_with(rt, alloc, offer, table, &KeptFiles::new(&files)),
+            Err(fault) => Err(folder_failure(folder, fault)),
+        },
+        None => keep_with(rt, alloc, offer, table, &()),
+    }
+}
+
+// Runs the offered service to its end, with its sessions kept in this archive.
+fn keep_with<
     'a,
     R: Net<Stream = TcpStream, Listener = TcpListener>
         + Threads
@@ -40,16 +72,28 @@ pub fn keep<
         + Send
         + Sync
         + 'static,
->(rt: &R, alloc: Global, offer: &Offer<'a>) -> Result<(), Failure<'a>> {
-    let table = make_table(alloc, offer.users.as_slice())?;
+    A: Archive + Sync,
+>(rt: &R, alloc: Global, offer: &Offer<'a>, table: Table, archive: &A) -> Result<(), Failure<'a>> {
     let doors = Doors {
         service: listen(rt, offer.address())?,
         page: listen_for_page(rt, offer)?,
     };
     let host = make_host(rt, alloc, offer, doors.ports())?;
-    let served = serve_offer(rt, alloc, &*offer, &doors, table, &host);
+    let served = serve_offer(alloc, &*offer, &doors, table, &host, archive);
     host.close();
     finish(rt, offer, served)
+}
+
+// Returns the failure for a folder that can't be used.
+fn folder_failure<'a>(folder: &'a str, fault: FolderFault) -> Failure<'a> {
+    let refusal = match fault {
+        FolderFault::Memory => return Failure::Serve(ServeFault::Memory),
+        FolderFault::Taken => FolderRefusal::Taken,
+        FolderFault::NotAFolder => FolderRefusal::NotAFolder,
+        FolderFault::Failed(Some(code)) => FolderRefusal::Failed(SystemError { code }),
+        FolderFault::Failed(None) => FolderRefusal::Refused,
+    };
+    Failure::Folder(folder, refusal)
 }
 
 /// A listener, with its port.
@@ -83,20 +127,21 @@ impl Doors {
 fn serve_offer<
     'x,
     R: Threads + Wait + Clock + Print + Eprint + Replace + Clone + Drop + Send + Sync + 'static,
+    A: Archive + Sync,
 >(
-    rt: &R,
     alloc: Global,
     offer: &'x Offer<'_>,
     doors: &'x Doors,
     table: Table,
     host: &Host<'_, R>,
+    archive: &A,
 ) -> Result<Closed, ServeFault> {
     let observers = Observers {
         gate: &Free,
         journal: host,
     };
     let site = Site {
-        rt,
+        rt: host.rt,
         alloc,
         listener: &doors.service.listener,
     };
@@ -106,6 +151,7 @@ fn serve_offer<
         table,
         offer.terms(),
         observers,
+        archive,
     )
 }
 
@@ -203,7 +249,7 @@ fn web_host<'x>(offer: &'x Offer<'_>) -> Option<&'x [u8]> {
 fn make_host<'x, 'a, R: Threads + Wait + Clock + Eprint + Replace + Clone + Send + Drop + 'static>(
     rt: &'x R,
     alloc: Global,
-    offer: &Offer<'a>,
+    offer: &'x Offer<'a>,
     ports: Ports,
 ) -> Result<Host<'x, R>, Failure<'a>> {
     let Ok(counters) = make_counters(alloc) else {
@@ -216,6 +262,7 @@ fn make_host<'x, 'a, R: Threads + Wait + Clock + Eprint + Replace + Clone + Send
     Ok(Host {
         rt,
         ports,
+        folder: offer.service.keep,
         log,
         stats,
         counters,
