@@ -7,6 +7,7 @@ setpriv give the command line the unit's limits.
 import contextlib
 import os
 import re
+import shlex
 import shutil
 import signal
 import subprocess
@@ -19,6 +20,8 @@ sys.path.insert(0, str(TOP / "scripts"))
 from lib import Failed, demand, free_port  # noqa: E402
 
 UNIT = "/usr/lib/systemd/system/pazkindu@.service"
+SESSIONS = "/var/lib/pazkindu/sessions"
+NOBODY = 65534
 INCLUDED = "systemd,systemd-sysv,man-db,iproute2"
 MIRROR = "http://deb.debian.org/debian"
 SECONDS = 20
@@ -108,21 +111,23 @@ def service(place):
 
 def settings(place, name):
     """What the unit's lines and the file of a server say, as systemd takes them."""
-    found = [pair for line in service(place)["Environment"] for pair in line.split()]
+    found = [pair.replace("%i", name) for line in service(place)["Environment"] for pair in shlex.split(line)]
     found += [line for line in Path(f"{place.folder}/etc/pazkindu/{name}.conf").read_text().splitlines()
               if re.match(r"[A-Z_]+=", line)]
     return dict(pair.split("=", 1) for pair in found)
 
 
 def command(place, name):
-    """The words of ExecStart, with ${ONE} put in, and $SEVERAL split at blanks."""
+    """The words of ExecStart, with ${ONE} put in, and $SEVERAL split at blanks; the folder of the sessions is that of
+    the place."""
     values, out = settings(place, name), []
     for word in service(place)["ExecStart"][0].split():
         if re.fullmatch(r"\$[A-Z]+", word):
             out += values[word[1:]].split()
         else:
             out.append(re.sub(r"\$\{([A-Z]+)\}", lambda found: values[found[1]], word))
-    return [f"{place.folder}{out[0]}", *out[1:]]
+    return [f"{place.folder}{out[0]}", *(f"{place.folder}{word}" if word.startswith(SESSIONS) else word
+                                         for word in out[1:])]
 
 
 def number(text):
@@ -152,6 +157,15 @@ class Keeper:
         Path(f"{self.place.folder}/etc/pazkindu/{name}.conf").write_text(
             "".join(f"{key}={value}\n" for key, value in rows.items()))
         return port
+
+    def sessions(self, name):
+        """Where the sessions of a server are, as this machine sees them."""
+        return Path(f"{self.place.folder}{SESSIONS}/{name}")
+
+    def forget(self, name):
+        """Forgets the sessions of a server that has ended."""
+        for path in self.sessions(name).glob("*"):
+            path.unlink()
 
     def wait_until(self, holds, why, seconds=SECONDS):
         until = time.monotonic() + seconds
@@ -185,7 +199,11 @@ class Limited(Keeper):
         rows, values = service(self.place), settings(self.place, name)
         limits = [f"--{key}={number(rows[row][0])}" for key, row in
                   (("as", "LimitAS"), ("stack", "LimitSTACK"), ("nofile", "LimitNOFILE"))]
-        nobody = ["--reuid=65534", "--regid=65534", "--clear-groups", "--bounding-set=-all"] if is_root() else []
+        nobody = [f"--reuid={NOBODY}", f"--regid={NOBODY}", "--clear-groups", "--bounding-set=-all"]
+        nobody = nobody if is_root() else []
+        self.sessions(name).mkdir(mode=0o700, parents=True, exist_ok=True)
+        if nobody:
+            os.chown(self.sessions(name), NOBODY, NOBODY)
         words = ["prlimit", *limits, "setpriv", "--no-new-privs", *nobody, *command(self.place, name)]
         with open(f"{self.place.folder}/{name}.log", "wb") as log:
             self.servers[name] = subprocess.Popen(words, stdin=subprocess.DEVNULL, stdout=log, stderr=log,
@@ -199,6 +217,11 @@ class Limited(Keeper):
 
     def is_over(self, name):
         return not self.pid(name)
+
+    def kill(self, name):
+        self.servers[name].kill()
+        self.servers[name].wait()
+        self.start(name)
 
     def stop(self, name):
         self.servers[name].terminate()
@@ -235,13 +258,18 @@ class Managed(Keeper):
     def is_over(self, name):
         return self.show(name, "ActiveState") == "inactive"
 
+    def kill(self, name):
+        """Kills a server, which systemd starts again."""
+        self.run("systemctl", "kill", "--signal=KILL", self.unit(name))
+
     def stop(self, name):
         self.run("systemctl", "stop", self.unit(name))
 
 
 class Transient(Managed):
     """This machine's systemd, by systemd-run: every line of the unit's [Service], and the program at its place,
-    which may be below a /tmp that the unit doesn't see."""
+    which may be below a /tmp that the unit doesn't see. It keeps no sessions, which would be in a folder of this
+    machine."""
     kind = "systemd-run, with every line of the unit"
 
     def unit(self, name):
@@ -253,7 +281,10 @@ class Transient(Managed):
             for value in values:
                 if key == "EnvironmentFile":
                     value = f"{self.place.folder}/etc/pazkindu/{name}.conf"
-                if key != "ExecStart":
+                if "KEEP=" in value:
+                    value = "KEEP="
+                value = value.replace("%i", self.unit(name))
+                if key not in ("ExecStart", "StateDirectory", "StateDirectoryMode"):
                     lines.append(f"--property={key}={value}")
         words = rows["ExecStart"][0].split()
         self.run("systemd-run", "--quiet", f"--unit={self.unit(name)}", *lines, f"{self.place.folder}{words[0]}",
@@ -326,6 +357,10 @@ class Booted(Managed):
             if self.run("stat", "-f", "-c", "%T", folder, may_fail=True).strip() == "cgroupfs":
                 self.run("mount", "-o", "remount,bind,rw", folder)
         self.run("systemctl", "daemon-reexec")
+
+    def sessions(self, name):
+        """A folder of a user that systemd makes up is elsewhere, and a link leads there."""
+        return Path(f"{self.place.folder}{SESSIONS.replace('/lib/', '/lib/private/')}/{name}")
 
     def memory(self, name, *files):
         """A number of the control group that holds the server's memory, by its older or its newer name, or nothing."""
