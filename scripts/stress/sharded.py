@@ -32,12 +32,18 @@ def shards(*words):
     return ran.returncode, ran.stdout.decode().splitlines(), ran.stderr.decode().splitlines()
 
 
+def kept_folder(folder):
+    """Where the processes of a folder keep their sessions."""
+    return Path(folder).with_suffix(".kept")
+
+
 def prepared_folder(folder, names, program, *words):
     """Has a roster spread over processes on ports that the system chooses, and answers what was printed."""
     roster = Path(folder).with_suffix(".roster")
     roster.write_text("".join(name + "\n" for name in names), encoding="ascii")
-    ports = ["--port", 0, "--first-port", 0]
-    status, told, complaint = shards(*ports, "--program", program, *words, roster, folder)
+    kept_folder(folder).mkdir(exist_ok=True)
+    own = ["--port", 0, "--first-port", 0, "--keep", kept_folder(folder)]
+    status, told, complaint = shards(*own, "--program", program, *words, roster, folder)
     demand(status == 0, f"scripts/shards: {short(' '.join(complaint))}")
     return told
 
@@ -47,7 +53,7 @@ class Shard(Process):
 
     def __init__(self, folder, number):
         conf = (folder / f"{number}.conf").read_text(encoding="ascii")
-        self.own = dict(line.split("=", 1) for line in conf.splitlines())
+        self.own, self.number = dict(line.split("=", 1) for line in conf.splitlines()), number
         self.users = self.own["USERS"].split()
         unit = (folder / "pazkindu@.service").read_text(encoding="ascii")
         rows = dict(line.split("=", 1) for line in unit.splitlines() if "=" in line)
@@ -58,9 +64,10 @@ class Shard(Process):
         self.port = int(self.own["PORT"])
 
     def expanded(self, word):
-        """A word of a command line: `$NAME` alone means the words of a setting, `${NAME}` its text."""
+        """A word of a command line: `$NAME` alone means the words of a setting, `${NAME}` its text, `%i` the number."""
         if re.fullmatch(r"\$[A-Z]+", word):
             return self.own[word[1:]].split()
+        word = word.replace("%i", str(self.number))
         return [re.sub(r"\$\{([A-Z]+)\}", lambda found: self.own[found[1]], word)]
 
     def must_listen(self):
