@@ -16,7 +16,7 @@ use std::os::unix::fs::FileExt;
 
 /// The most bytes of a file that is opened. A session stores 10,000 lines and 1 MiB of text, and a gate and a line end
 /// for each line.
-const MOST_BYTES: usize = 1_200_000;
+pub(crate) const MOST_BYTES: usize = 1_200_000;
 
 /// Where the file of a user is.
 #[derive(Drop)]

@@ -1,6 +1,7 @@
 //! The folder of the users' files, which one process has at a time.
 
 use crate::file::{Place, UserFile};
+use crate::look::LookFault;
 use crate::system::Storage;
 use nesl_keep::device::{DeviceError, Folder, Opened};
 use std::alloc::{AllocError, Global};
@@ -9,6 +10,9 @@ use std::io::{self, ErrorKind};
 
 /// The most letters and digits of a user's name.
 const MOST_LETTERS: usize = 16;
+
+/// How many names are tried for a file that is put aside.
+const MOST_NAMES: u32 = 100;
 
 /// Why a folder can't be used.
 #[derive(Clone, Copy, Debug, PartialEq, Eq)]
@@ -69,6 +73,34 @@ impl<'x, R: Storage> Files<'x, R> {
             lock,
         })
     }
+
+    /// Makes an empty file in the name of a user and a time, with a number after it if that name is taken. Returns the
+    /// name.
+    pub(crate) fn claim(&self, alloc: Global, user: &str, time: &str) -> Result<String, LookFault> {
+        for number in 1..=MOST_NAMES {
+            let name = name_aside(alloc, user, time, number)?;
+            let path = format!(in alloc; "{}/{name}", self.path)?;
+            match self.rt.make_file(path.as_str()) {
+                Ok(_) => return Ok(name),
+                Err(error) if error.kind() == ErrorKind::AlreadyExists => {}
+                Err(error) => return Err(LookFault::from(error)),
+            }
+        }
+        Err(LookFault::from(io::Error::from(ErrorKind::AlreadyExists)))
+    }
+
+    /// Brings the names in the folder to the disk.
+    pub(crate) fn sync(&self) -> io::Result<()> {
+        self.folder.sync_all()
+    }
+}
+
+fn name_aside(alloc: Global, user: &str, time: &str, number: u32) -> Result<String, AllocError> {
+    if number == 1 {
+        format!(in alloc; "{user}.{time}")
+    } else {
+        format!(in alloc; "{user}.{time}.{number}")
+    }
 }
 
 fn open_lock<R: Storage>(rt: &R, path: &str) -> io::Result<File> {
@@ -99,8 +131,8 @@ impl<'x, R: Storage> Folder for Files<'x, R> {
     }
 }
 
-// Returns the name of a user. It has small letters and digits alone, so that no path leaves the folder.
-fn read_name(user: &[u8]) -> Option<&str> {
+/// Returns the name of a user. It has small letters and digits alone, so that no path leaves the folder.
+pub(crate) fn read_name(user: &[u8]) -> Option<&str> {
     let is_plain = |b: &u8| b.is_ascii_lowercase() || b.is_ascii_digit();
     if user.is_empty() || user.len() > MOST_LETTERS || !user.iter().all(is_plain) {
         return None;

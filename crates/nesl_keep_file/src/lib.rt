@@ -9,8 +9,12 @@ mod calls;
 mod file;
 mod folder;
 mod history;
+mod look;
+mod renew;
 mod system;
 
 pub use file::UserFile;
 pub use folder::{Files, FolderFault};
+pub use look::{ListedNames, LookFault, list_names, read_file};
+pub use renew::put_aside;
 pub use system::Storage;

@@ -14,7 +14,7 @@ const PRIVATE_FILE: u32 = 0o600;
 const PRIVATE_FOLDER: u32 = 0o700;
 
 /// The system's error for a file that is too large.
-const TOO_LARGE: i32 = 27;
+pub(crate) const TOO_LARGE: i32 = 27;
 
 /// The calls of the system by which files are kept. It is a trait of its own, since what threads share can't rest on an
 /// assumed `Files` of the kit.
@@ -113,9 +113,27 @@ fn open_file<R: Files<File = File>>(rt: &R, path: &str) -> io::Result<File> {
     let found = fs::symlink_metadata(rt, path)?;
     require_regular(&found)?;
     let file = OpenOptions::new().read(true).write(true).open(rt, path)?;
+    require_same(&file, &found)?;
+    Ok(file)
+}
+
+/// Opens a regular file that was found, for reading alone.
+pub(crate) fn open_found<R: Files<File = File>>(
+    rt: &R,
+    path: &str,
+    found: &Metadata,
+) -> io::Result<File> {
+    require_regular(found)?;
+    let file = fs::open(rt, path)?;
+    require_same(&file, found)?;
+    Ok(file)
+}
+
+// Fails unless the opened file is the one that was found.
+fn require_same(file: &File, found: &Metadata) -> io::Result<()> {
     let opened = file.metadata()?;
     if opened.dev() == found.dev() && opened.ino() == found.ino() {
-        Ok(file)
+        Ok(())
     } else {
         Err(ErrorKind::Unsupported.into())
     }
@@ -162,6 +180,11 @@ pub(crate) fn read_settled(
     if advised != 0 {
         return Err(io::Error::from_raw_os_error(advised));
     }
+    read_up_to(alloc, file, most)
+}
+
+/// Reads a file. One of more than `most` bytes is refused.
+pub(crate) fn read_up_to(alloc: Global, file: &File, most: usize) -> io::Result<Vec<u8>> {
     let mut bytes = Vec::new(alloc);
     let _ = file
         .take((most as u64).saturating_add(1))
