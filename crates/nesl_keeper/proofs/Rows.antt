@@ -1,10 +1,14 @@
 -- What a line does to the rows of a session.
-use Rattle.std.proofs.Common.{◌≡◌, ◌≢◌, ℕ, ◌-◌, ◌≤◌, List, [], ◌∷◌, ◌++◌, length, map, take, drop, get_or, Vec, refl, sym, ◌∙◌, ap, arith, length-append, append_assoc, append-nil}
+use Rattle.std.proofs.Common.{◌≡◌, ◌≢◌, ◌⊎◌, inl, inr, ℕ, Bool, true, false, ◌-◌, ◌≤◌, List, [], ◌∷◌, ◌++◌, length, map, take, drop, get_or, Vec, refl, sym, ◌∙◌, ap, arith, length-append, append_assoc, append-nil}
 use Rattle.std.proofs.lemmas.List.{take_all}
 use Rattle.std.specs.declared.alloc.Global.{Global}
-use Rattle.nesl_session_meaning.specs.State.{Log, recorded_lines}
+use Rattle.nesl_session_meaning.specs.State.{Log}
+use Rattle.std.specs.Bool.{MatchBool}
+use Rattle.nesl_session_meaning.specs.Response.{Reply, no_memory, is_memory}
+use Rattle.nesl_session_meaning.specs.Solo.{SessionAnswers, Responds}
 use Rattle.nesl_session_meaning.specs.Laws.{Stores, nothing, the_line, reset}
 use Rattle.nesl_keeper.specs.Files.{head_text, rows_of, with_rows}
+use Rattle.nesl_keeper.specs.Steps.{IsUnstored}
 
 pub rows_stored : (old new : Log) (line : List ℕ) → Stores old line new → new.cleared ≡ old.cleared → length new.lines ≢ length old.lines → rows_of old ++ line ∷ [] ≡ rows_of new
 rows_stored old new line nothing same other = absurd (other refl)
@@ -26,6 +30,22 @@ pub stored : (old new : Log) (line : List ℕ) → Stores old line new → new.c
 stored old new line nothing same other = absurd (other refl)
 stored old new line the_line same other = refl
 stored old new line (reset base) same other = absurd (omega (arith, same))
+
+-- a line whose answer isn't that of memory that ran out was answered by a step
+answered_by : (b : Bool) (old new : Log) (line : List ℕ) (reply : Reply) → MatchBool b ((reply ≡ no_memory) × (new ≡ old)) (SessionAnswers old (line ∷ []) (reply ∷ []) new) → reply.fault ≢ no_memory.fault → SessionAnswers old (line ∷ []) (reply ∷ []) new
+answered_by true old new line reply r other = absurd (other (ap (λ (it : Reply). it.fault) r.0))
+answered_by false old new line reply r other = r
+
+pub answered : (old new : Log) (line : List ℕ) (reply : Reply) → Responds old line reply new → reply.fault ≢ no_memory.fault → SessionAnswers old (line ∷ []) (reply ∷ []) new
+answered old new line reply r other = answered_by (is_memory reply) old new line reply r other
+
+-- it isn't stored if as many lines are stored as before, or if other lines were cleared
+not_with_rows : (old new : Log) (line : List ℕ) → (length new.lines ≡ length old.lines) ⊎ (new.cleared ≢ old.cleared) → new ≢ with_rows old (line ∷ [])
+not_with_rows old new line (inl same) is = omega (arith, same, ap (λ (log : Log). length log.lines) is, length-append old.lines (line ∷ []))
+not_with_rows old new line (inr other) is = other (ap (λ (log : Log). log.cleared) is)
+
+pub unstored : (old new : Log) (line : List ℕ) (reply : Reply) → Responds old line reply new → reply.fault ≢ no_memory.fault → (length new.lines ≡ length old.lines) ⊎ (new.cleared ≢ old.cleared) → IsUnstored old line new
+unstored old new line reply r other kept = record { reply = reply; answered = answered old new line reply r other; other = not_with_rows old new line kept }
 
 pub with_more : (log : Log) (lines more : List (List ℕ)) → with_rows (with_rows log lines) more ≡ with_rows log (lines ++ more)
 with_more log lines more = ap (λ (ls : List (List ℕ)). record log { lines = ls }) (append_assoc log.lines lines more)

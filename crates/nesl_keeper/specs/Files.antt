@@ -1,6 +1,8 @@
 -- What the file of a session is, and which session it stands for.
-use Rattle.std.specs.Prelude.{◌≡◌, ◌⊎◌, ℕ, List, [], ◌∷◌, ◌++◌, codes, decimal}
+use Rattle.std.specs.Prelude.{◌≡◌, ◌≢◌, ◌≤◌, ◌⊎◌, ℕ, List, [], ◌∷◌, ◌++◌, codes, decimal}
+use Rattle.nesl_session_meaning.specs.declared.limits.Limits.{Limits}
 use Rattle.nesl_session_meaning.specs.State.{Log, empty_log}
+use Rattle.nesl_session_meaning.specs.Step.{most_recorded}
 use Rattle.nesl_keep.specs.Device.{Only, LeavesOnly}
 use Rattle.nesl_keep.specs.Scroll.{kept, IsSettled}
 use Rattle.nesl_keeper.specs.declared.keeper.Stage.{Stage}
@@ -9,6 +11,11 @@ use Rattle.nesl_keeper.specs.declared.keeper.Stage.TheVariants.{Away, Kept, Fail
 -- the first line of a file: the version, the work that was left at the last reset, and the lines recorded until then
 abbrev pub head_text : (base cleared : ℕ) → List ℕ
 head_text base cleared = codes "pazkindu 1 " ++ decimal base ++ codes " " ++ decimal cleared
+
+-- no session with these limits has this head
+abbrev pub IsNoHead : Limits → List ℕ → Type 0
+IsNoHead limits line =
+    (base cleared : ℕ) → base ≤ limits.session_work → cleared ≤ most_recorded → line ≢ head_text base cleared
 
 -- the lines of a session's file: its head, and the lines that the session has stored since the last reset
 abbrev pub rows_of : Log → List (List ℕ)

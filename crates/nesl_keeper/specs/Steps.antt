@@ -1,14 +1,14 @@
 -- What the steps of a keeper hand on.
-use Rattle.std.specs.Prelude.{◌≡◌, ℕ, List}
+use Rattle.std.specs.Prelude.{◌≡◌, ◌≢◌, ℕ, List, [], ◌∷◌}
 use Rattle.nesl_session_meaning.specs.State.{State, Log, empty_log}
 use Rattle.nesl_session_meaning.specs.Response.{Reply}
-use Rattle.nesl_session_meaning.specs.Solo.{Replays, Responds}
+use Rattle.nesl_session_meaning.specs.Solo.{Replays, Responds, SessionAnswers}
 use Rattle.nesl_keep.specs.Device.{Only, LeavesOnly}
 use Rattle.nesl_keep.specs.Scroll.{kept, IsSettled}
 use Rattle.nesl_keep.specs.declared.scroll.Scroll.{Scroll}
 use Rattle.nesl_line.specs.declared.keeper.Mark.{Mark}
 use Rattle.nesl_line.specs.Keeping.{MarkOf}
-use Rattle.nesl_keeper.specs.Files.{rows_of, StandsFor, StandsForEither}
+use Rattle.nesl_keeper.specs.Files.{rows_of, with_rows, StandsFor, StandsForEither}
 
 -- a file was opened, and its lines are those of this session
 pub record IsFound
@@ -32,3 +32,9 @@ pub record WasKept (old : Log) (was : Mark) (line : List ℕ) (reply : Reply) (n
   pub rows : kept file ≡ rows_of old
   pub mark : MarkOf was old
   pub responds : Responds old line reply new
+
+-- a session answers a line, and doesn't store it as one more
+pub record IsUnstored (old : Log) (line : List ℕ) (new : Log) : Type 0 where
+  pub reply : Reply
+  pub answered : SessionAnswers old (line ∷ []) (reply ∷ []) new
+  pub other : new ≢ with_rows old (line ∷ [])

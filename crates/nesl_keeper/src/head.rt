@@ -1,8 +1,11 @@
 //! The first line of a file: the version of its format, and what the last reset left of the session.
-ghost use Rattle.std.specs.Prelude.{◌≡◌, [], IfOk};
+ghost use Rattle.std.specs.Prelude.{◌≡◌, ◌==◌, ◌⊎◌, ◌<◌, ◌^◌, ℕ, [], IfErr, IfOk, IfSome, Some, decimal, length};
+ghost use Rattle.std.specs.Prelude.{position};
 ghost use Rattle.nesl_session_meaning.specs.State.{State};
 ghost use Rattle.nesl_session_meaning.specs.Solo.{Replays};
-ghost use Rattle.nesl_keeper.specs.Files.{head_text};
+ghost use Rattle.nesl_line.specs.declared.keeper.KeepFault.TheVariants.{Memory, Strange};
+ghost use Rattle.nesl_line.specs.declared.keeper.Mismatch.TheVariants.{Head};
+ghost use Rattle.nesl_keeper.specs.Files.{head_text, IsNoHead};
 
 use itoa::Buffer;
 use nesl_line::keeper::{KeepFault, Mismatch};
@@ -34,16 +37,18 @@ pub(crate) fn head_of(alloc: Global, session: &Session) -> Result<Vec<u8>, Alloc
 
 /// The session that a head names, in which nothing is stored yet. The head is written again and compared, so that there
 /// is one head for each session.
-pub(crate) fn open(alloc: Global, limits: Limits, head: &[u8]) -> Result<Session, KeepFault>
+pub fn open(alloc: Global, limits: Limits, head: &[u8]) -> Result<Session, KeepFault>
     ensures head { IfOk result (λ s. head_text s.base s.cleared ≡ head.now) }
     ensures empty { IfOk result (λ s. s.lines ≡ []) }
     ensures limits { IfOk result (λ s. s.limits ≡ limits) }
     ensures replayed { IfOk result (λ s. (state : State) × Replays s state) }
+    ensures refused { IfErr result (λ fault. (fault ≡ Memory) ⊎ ((fault ≡ Strange Head) × IsNoHead limits head.now)) }
 {
+    let most_work = limits.session_work;
     let Some(numbers) = numbers_in(head) else {
         return Err(KeepFault::Strange(Mismatch::Head));
     };
-    if numbers.base > limits.session_work || numbers.cleared > MOST_RECORDED {
+    if numbers.base > most_work || numbers.cleared > MOST_RECORDED {
         return Err(KeepFault::Strange(Mismatch::Head));
     }
     let session = Session::opened(alloc, limits, numbers.base, numbers.cleared);
@@ -55,16 +60,29 @@ pub(crate) fn open(alloc: Global, limits: Limits, head: &[u8]) -> Result<Session
 }
 
 // The numbers of a head, if it is one of this version.
-fn numbers_in(head: &[u8]) -> Option<Numbers> {
+fn numbers_in(head: &[u8]) -> Option<Numbers>
+    ensures { (base cleared : ℕ) → base < 2 ^ 64 → cleared < 2 ^ 64 → head.now ≡ head_text base cleared
+        → result ≡ Some (record { base = base; cleared = cleared }) }
+{
     let rest = head.strip_prefix(VERSION)?;
-    let blank = rest.iter().position(|b| *b == b' ')?;
+    let blank = find_blank(rest)?;
     Some(Numbers {
         base: number_in(&rest[..blank])?,
         cleared: number_in(&rest[blank + 1..])?,
     })
 }
 
-fn number_in(digits: &[u8]) -> Option<u64> {
+// The place of the first blank.
+fn find_blank(bytes: &[u8]) -> Option<usize>
+    ensures place { result ≡ position (λ b. b == 32) bytes.now }
+    ensures within { IfSome result (λ place. place < length bytes.now) }
+{
+    bytes.iter().position(|b| *b == b' ')
+}
+
+fn number_in(digits: &[u8]) -> Option<u64>
+    ensures { (number : ℕ) → number < 2 ^ 64 → digits.now ≡ decimal number → result ≡ Some number }
+{
     match str::from_utf8(digits) {
         Ok(digits) => digits.parse::<u64>().ok(),
         Err(_) => None,

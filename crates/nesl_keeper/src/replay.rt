@@ -1,12 +1,14 @@
 //! A session made anew from the lines of its file, and a session compared with them.
-ghost use Rattle.std.specs.Prelude.{◌≡◌, ◌++◌, [], ◌∷◌, IfOk, OnOk, map};
+ghost use Rattle.std.specs.Prelude.{◌≡◌, ◌++◌, [], ◌∷◌, Err, IfOk, OnOk, map};
 ghost use Rattle.nesl_session_meaning.specs.State.{State};
-ghost use Rattle.nesl_session_meaning.specs.Solo.{Replays};
+ghost use Rattle.nesl_session_meaning.specs.Solo.{Replays, SessionAnswers};
 ghost use Rattle.nesl_keeper.specs.Files.{rows_of, with_rows};
+ghost use Rattle.nesl_keeper.specs.Steps.{IsUnstored};
 
 use crate::head::{head_of, open};
 use nesl_line::keeper::{KeepFault, Mark, Mismatch};
 use nesl_session::Fault;
+use nesl_session::answer::Answer;
 use nesl_session::laws::lines_are_stored;
 use nesl_session::limits::Limits;
 use nesl_session::session::Session;
@@ -47,15 +49,21 @@ fn store_all(session: &mut Session, alloc: Global, lines: &[Vec<u8>]) -> Result<
     Ok(())
 }
 
-// Why a line of a file isn't stored again.
-enum Unstored {
+/// Why a line of a file isn't stored again.
+#[derive(Clone, Copy, PartialEq, Eq, Debug)]
+pub enum Unstored {
+    /// Memory ran out.
     Memory,
+    /// The session doesn't store the line.
     Refused,
 }
 
-// Says a line to a session, which must store it.
-fn store(session: &mut Session, alloc: Global, line: &[u8]) -> Result<(), Unstored>
-    ensures { OnOk result (session.new ≡ with_rows session.old (line.now ∷ [])) }
+/// Says a line to a session, which must store it.
+pub fn store(session: &mut Session, alloc: Global, line: &[u8]) -> Result<Answer, Unstored>
+    ensures answered { IfOk result
+        (λ answer. SessionAnswers session.old (line.now ∷ []) (answer ∷ []) session.new) }
+    ensures stored { OnOk result (session.new ≡ with_rows session.old (line.now ∷ [])) }
+    ensures refused { result ≡ Err Unstored.Refused → IsUnstored session.old line.now session.new }
 {
     lines_are_stored();
     let was = Mark::of(session);
@@ -67,7 +75,7 @@ fn store(session: &mut Session, alloc: Global, line: &[u8]) -> Result<(), Unstor
     if is.stored == was.stored || is.cleared != was.cleared {
         return Err(Unstored::Refused);
     }
-    Ok(())
+    Ok(answer)
 }
 
 /// Fails unless the rows are those of the session's file.
