@@ -1,5 +1,7 @@
-pub mod Admitted
+pub mod Refused
 pub mod Bytes
+pub mod Crosses
 pub mod Files
+pub mod Hearings
 pub mod Readings
 pub mod Words

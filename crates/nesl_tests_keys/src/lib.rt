@@ -4,6 +4,8 @@
 #[cfg(test)]
 mod files;
 #[cfg(test)]
+mod hearing;
+#[cfg(test)]
 mod making;
 #[cfg(test)]
 mod requests;

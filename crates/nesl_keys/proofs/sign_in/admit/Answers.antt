@@ -1,7 +1,7 @@
 use Rattle.nesl_keys.specs.Admission.{ByAddress, ByHeader, came_with, nobody}
 use Rattle.nesl_keys.specs.Shown.{listed_in}
 use Rattle.nesl_keys.specs.declared.sign_in.TurnedAway.TheVariants as away
-use Rattle.nesl_keys.proofs.Admitted.{named_otherwise, nobody_keyed}
+use Rattle.nesl_keys.proofs.Refused.{named_otherwise, nobody_keyed}
 use Rattle.nesl_keys.proofs.sign_in.admit.Goals as goal
 
 pub returns-in-Keys-clause-nobody : goal.returns-in-Keys-clause-nobody
