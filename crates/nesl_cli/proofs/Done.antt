@@ -5,8 +5,10 @@ use Rattle.nesl_cli.specs.declared.failure.Failure.{Failure}
 use Rattle.nesl_cli.specs.declared.prompt.Terminals.{Terminals}
 use Rattle.nesl_cli.specs.declared.words.Task.{Task as Code}
 use Rattle.nesl_cli.specs.declared.words.Task.TheVariants as code
-use Rattle.nesl_cli.specs.Words.{Task, a_batch, a_prompt, some_costs}
+use Rattle.nesl_cli.specs.declared.keep_words.Keep.{Keep as Look}
+use Rattle.nesl_cli.specs.Words.{Task, a_batch, a_prompt, a_look, some_costs}
 use Rattle.nesl_cli.specs.Wanted.{task_wanted}
+use Rattle.nesl_line.proofs.Bytes.{consumes_none}
 use Rattle.nesl_cli.specs.Program.{Served, Prompted, BatchFails, PromptFails, TaskDone, TaskFails, is_plain_at}
 
 task_read : (read : Code) (known asked : Task) → task_wanted read ≡ known → task_wanted read ≡ asked → known ≡ asked
@@ -52,3 +54,12 @@ pub prompt_failed : (terminals : Terminals) (read : Code) (is_hinted has_files :
     → PromptFails (is_plain_at terminals (record { is_hinted = is_hinted; has_files = has_files })) failure left left' held held' → TaskFails terminals asked failure named left left' held held'
 prompt_failed terminals read is_hinted has_files asked failure named left left' held held' r a s =
     asked_of (λ t us. TaskFails terminals t failure us left left' held held') (a_prompt (record { is_hinted = is_hinted; has_files = has_files })) asked named named (task_read read _ asked (ap task_wanted r) a) refl s
+
+-- kept sessions were looked at, or could not be
+pub look_done : (terminals : Terminals) (read : Code) (look : Look) (asked : Task) (named : List (List ℕ)) (left held held' : Option (List ℕ)) → read ≡ code.Keep look → task_wanted read ≡ asked → TaskDone terminals asked named left left held held'
+look_done terminals read look asked named left held held' r a =
+    asked_of (λ t us. TaskDone terminals t us left left held held') (task_wanted (code.Keep look)) asked named named (task_read read _ asked (ap task_wanted r) a) refl (consumes_none left)
+
+pub look_failed : (terminals : Terminals) (read : Code) (look : Look) (asked : Task) (failure : Failure) (named : List (List ℕ)) (left held held' : Option (List ℕ)) → read ≡ code.Keep look → task_wanted read ≡ asked → TaskFails terminals asked failure named left left held held'
+look_failed terminals read look asked failure named left held held' r a =
+    asked_of (λ t us. TaskFails terminals t failure us left left held held') (task_wanted (code.Keep look)) asked named named (task_read read _ asked (ap task_wanted r) a) refl (consumes_none left)

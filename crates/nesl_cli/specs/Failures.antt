@@ -10,9 +10,16 @@ use Rattle.nesl_service.specs.declared.service.ServeFault.TheVariants as serve_f
 use Rattle.nesl_cli.specs.declared.failure.Failure.{Failure}
 use Rattle.nesl_cli.specs.declared.failure.Failure.TheVariants.{Read, Write, Memory, Serve}
 use Rattle.nesl_cli.specs.declared.failure.Failure.TheVariants.{Count, Name, Twice, Encoding}
-use Rattle.nesl_cli.specs.declared.failure.Failure.TheVariants.{Costs, Value, Taken, Stats, Folder, Prompt}
+use Rattle.nesl_cli.specs.declared.failure.Failure.TheVariants.{Costs, Value, Taken, Stats, Folder, Kept, Prompt}
+use Rattle.nesl_kept.specs.declared.failure.LookFailure.{LookFailure}
+use Rattle.nesl_kept.specs.declared.failure.LookFailure.TheVariants as look_failure
 use Rattle.nesl_cli.specs.declared.prompt.PromptFault.TheVariants as prompt_fault
 use Rattle.nesl_cli.specs.declared.prompt.PromptFault.{PromptFault}
+
+-- of a look at kept sessions: 2 for a name that no user can have
+abbrev pub look_status_of : LookFailure → ℕ
+look_status_of (look_failure.Name name) = 2
+look_status_of _ = 1
 
 -- 1 for devices and memory, 2 for mistakes in the command line
 abbrev pub status_of : Failure → ℕ
@@ -29,6 +36,7 @@ status_of (Value text) = 2
 status_of (Taken port) = 1
 status_of (Stats file fault) = 1
 status_of (Folder folder fault) = 1
+status_of (Kept failure) = look_status_of failure
 status_of (Prompt fault) = 1
 
 -- 0 where an offered service ended well
@@ -58,11 +66,12 @@ prompt_failure_of WriteFault = Some prompt_fault.Write
 prompt_failure_of NoMemory = Some prompt_fault.Memory
 
 -- the failure where memory ran out before a run, by the word after the program's name: the service's for `serve`, the
--- prompt's for `repl`
+-- prompt's for `repl`, that of a look at kept sessions for `keep`
 abbrev pub memory_failure_by : List ℕ → Failure
 memory_failure_by word =
     if bytes_eq word (codes "serve") then Serve serve_fault.Memory
     else if bytes_eq word (codes "repl") then Prompt prompt_fault.Memory
+    else if bytes_eq word (codes "keep") then Kept look_failure.Memory
     else Memory
 
 abbrev pub memory_failure_at : Option (List ℕ) → Failure

@@ -13,7 +13,7 @@ use Rattle.nesl_line.specs.declared.exchange.End.{End}
 use Rattle.nesl_line.specs.declared.exchange.End.TheVariants.{Input, ReadFault, WriteFault}
 use Rattle.nesl_prompt.specs.Conversation.{IsPrompt}
 use Rattle.nesl_prompt.specs.Points.{is_plain}
-use Rattle.nesl_cli.specs.Words.{Task, a_batch, some_costs, a_service, a_prompt, Prompt, users_of, task_of}
+use Rattle.nesl_cli.specs.Words.{Task, a_batch, some_costs, a_service, a_prompt, a_look, Prompt, users_of, task_of}
 use Rattle.nesl_cli.specs.Offered.{service_offered, users_offered}
 use Rattle.nesl_cli.specs.Prompted.{style_for}
 use Rattle.nesl_cli.specs.declared.prompt.Terminals.{Terminals}
@@ -21,7 +21,7 @@ use Rattle.nesl_cli.specs.declared.run.Offer.{Offer}
 use Rattle.nesl_cli.specs.declared.failure.Failure.{Failure}
 use Rattle.nesl_cli.specs.declared.failure.Failure.TheVariants.{Read, Write, Memory, Serve}
 use Rattle.nesl_cli.specs.declared.failure.Failure.TheVariants.{Count, Name, Twice, Encoding}
-use Rattle.nesl_cli.specs.declared.failure.Failure.TheVariants.{Costs, Value, Taken, Stats, Folder}
+use Rattle.nesl_cli.specs.declared.failure.Failure.TheVariants.{Costs, Value, Taken, Stats, Folder, Kept}
 use Rattle.nesl_cli.specs.declared.failure.Failure.TheVariants as failed_as
 use Rattle.nesl_cli.specs.declared.prompt.PromptFault.TheVariants as prompt_fault
 use Rattle.nesl_cli.specs.Failures.{prompt_failure_of}
@@ -82,6 +82,7 @@ BatchFails Encoding is_hinted users left left' held held' = ⊥
 BatchFails (Taken port) is_hinted users left left' held held' = ⊥
 BatchFails (Stats file fault) is_hinted users left left' held held' = ⊥
 BatchFails (Folder folder fault) is_hinted users left left' held held' = ⊥
+BatchFails (Kept failure) is_hinted users left left' held held' = ⊥
 BatchFails (failed_as.Prompt fault) is_hinted users left left' held held' = ⊥
 BatchFails (Costs fault) is_hinted users left left' held held' = Unit {0}
 BatchFails (Value text) is_hinted users left left' held held' = Untouched left left' held held'
@@ -115,16 +116,18 @@ TaskFails terminals (some_costs costs) failure users left left' held held' =
     BatchFails failure false users left left' held held'
 TaskFails terminals (a_prompt prompt) failure users left left' held held' =
     PromptFails (is_plain_at terminals prompt) failure left left' held held'
+TaskFails terminals (a_look keep) failure users left left' held held' = Consumes left left' []
 TaskFails terminals (a_service service) failure users left left' held held' = ⊥
 
 -- What a task achieved that is run here. A batch or a prompt was answered to the end of its input. Nothing is claimed
--- of costs.
+-- of costs, and of a look at kept sessions no more than that nothing was read from the input.
 abbrev pub TaskDone : Terminals → Task → (users : List (List ℕ)) → (left left' held held' : Option (List ℕ)) → Type 0
 TaskDone terminals (a_batch batch) users left left' held held' =
     Served batch.is_hinted Input users left left' held held'
 TaskDone terminals (some_costs costs) users left left' held held' = Unit {0}
 TaskDone terminals (a_prompt prompt) users left left' held held' =
     Prompted (is_plain_at terminals prompt) Input left left' held held'
+TaskDone terminals (a_look keep) users left left' held held' = Consumes left left' []
 TaskDone terminals (a_service service) users left left' held held' = ⊥
 
 -- What became of a command line that wasn't refused. Either its task is done; or it asks for a service, and nothing was

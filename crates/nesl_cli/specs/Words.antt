@@ -1,6 +1,6 @@
 -- What the command line asks for, in clap's terms.
 use Rattle.std.specs.Prelude.{◌≡◌, refl, ℕ, ◌-◌, ◌^◌, true, List, [], ◌∷◌, Option, Some, None, codes, unwrap_or}
-use Rattle.std.specs.Prelude.{slice_get, Bool, false, option_and_then, if◌then◌else◌}
+use Rattle.std.specs.Prelude.{slice_get, Bool, false, drop, option_and_then, if◌then◌else◌}
 use Rattle.std.specs.Str.{bytes_eq}
 use Rattle.std.specs.Str.Parse.{digits_value, without_leading_plus}
 use Rattle.clap.specs.Lexer.{usize_max}
@@ -8,6 +8,7 @@ use Rattle.clap.specs.Simple.{App, Shape, new_rule, new_shape, new_app, on_top, 
 use Rattle.clap.specs.Walk.{Rule, Row, all_of, first_of, one_of, walked}
 use Rattle.clap.specs.ValueTests.{is_unsigned_in}
 use Rattle.clap.specs.Faults.{fault_of, is_simple_and_free, walk_fault, defaults_fault}
+use Rattle.clap.specs.declared.error.kind.ErrorKind.{ErrorKind}
 use Rattle.clap.specs.declared.error.kind.ErrorKind.TheVariants as kind
 use Rattle.clap.specs.declared.builder.action.ArgAction.TheVariants.{Set, SetTrue, Append}
 use Rattle.clap.specs.declared.builder.value_parser.ValueParser.TheVariants as vp
@@ -116,6 +117,10 @@ serve = record (new_shape (codes "serve")) {
       ∷ log_rule ∷ stats_rule ∷ keep_rule ∷ users_rule ∷ [];
 }
 
+-- the subcommand `keep` of the program's help; its words are read by a command of its own
+abbrev pub keep : Shape
+keep = new_shape (codes "keep")
+
 -- the program before its subcommands: one is required, help is shown where there are no words, and it has a version
 abbrev pub without_subcommands : App
 without_subcommands = on_top
@@ -124,7 +129,71 @@ without_subcommands = on_top
 
 -- the program
 abbrev pub program : App
-program = with_subcommand (with_subcommand (with_subcommand without_subcommands batch) serve) repl
+program =
+    with_subcommand (with_subcommand (with_subcommand (with_subcommand without_subcommands batch) serve) repl) keep
+
+-- `FOLDER`: a text that isn't empty, once
+abbrev pub folder_rule : Rule
+folder_rule = record (new_rule (codes "FOLDER")) {
+  action = Some Set;
+  parser = Some vp.NonEmptyString;
+  required = true;
+}
+
+-- `[USER]`: a user, at most once
+abbrev pub one_user_rule : Rule
+one_user_rule = record (new_rule (codes "USER")) { action = Some Set }
+
+-- `USER`: a user, once
+abbrev pub user_rule : Rule
+user_rule = record one_user_rule { required = true }
+
+-- `check FOLDER [USER]`
+abbrev pub check : Shape
+check = record (new_shape (codes "check")) { rules = folder_rule ∷ one_user_rule ∷ [] }
+
+-- `show FOLDER USER`
+abbrev pub show : Shape
+show = record (new_shape (codes "show")) { rules = folder_rule ∷ user_rule ∷ [] }
+
+-- `renew FOLDER USER`
+abbrev pub renew : Shape
+renew = record (new_shape (codes "renew")) { rules = folder_rule ∷ user_rule ∷ [] }
+
+-- `csv FOLDER [USER]`
+abbrev pub csv_of_kept : Shape
+csv_of_kept = record (new_shape (codes "csv")) { rules = folder_rule ∷ one_user_rule ∷ [] }
+
+-- `keep` before its commands: one is required, and help is shown where there are no words
+abbrev pub keep_without_commands : App
+keep_without_commands = on_top
+    (λ s. record s { subcommand_required = true; arg_required_else_help = true })
+    (new_app (codes "keep"))
+
+-- `keep`, which reads the words after the program's name
+abbrev pub keep_program : App
+keep_program =
+    with_subcommand (with_subcommand (with_subcommand (with_subcommand keep_without_commands check) show) renew)
+    csv_of_kept
+
+abbrev pub is_keep_word : Option (List ℕ) → Bool
+is_keep_word None = false
+is_keep_word (Some word) = bytes_eq word (codes "keep")
+
+-- the word after the program's name is `keep`
+abbrev pub is_keep : List (List ℕ) → Bool
+is_keep words = is_keep_word (slice_get words 1)
+
+-- the command that reads the words, and those that it reads, its own name first
+abbrev pub reader_of : List (List ℕ) → App
+reader_of words = if is_keep words then keep_program else program
+
+abbrev pub words_read : List (List ℕ) → List (List ℕ)
+words_read words = if is_keep words then drop 1 words else words
+
+-- why the words are refused, or that they ask for help or for the version
+abbrev pub faults_of : List (List ℕ) → List ErrorKind
+faults_of words = fault_of (reader_of words) (words_read words)
 
 -- the users among what was found, and those after the subcommand
 abbrev pub users_among : List Row → List (List ℕ)
@@ -135,7 +204,7 @@ users_in None = []
 users_in (Some p) = users_among p.1
 
 abbrev pub users_of : List (List ℕ) → List (List ℕ)
-users_of words = users_in (subcommand_of program words)
+users_of words = users_in (subcommand_of (reader_of words) (words_read words))
 
 -- the number that a text spells, if it is below 2^64
 abbrev pub number : List ℕ → Option ℕ
@@ -189,12 +258,25 @@ pub record Service : Type 0 where
   pub stats : Option (List ℕ)
   pub keep : Option (List ℕ)
 
+-- what is done with kept sessions
+pub data KeepWord : Type 0 where
+  checks : KeepWord
+  shows : KeepWord
+  renews : KeepWord
+  tabulates : KeepWord
+
+-- a look at kept sessions: what is done, and with the sessions of which folder
+pub record Keep : Type 0 where
+  pub word : KeepWord
+  pub folder : Option (List ℕ)
+
 -- what is to be done
 pub data Task : Type 0 where
   a_batch : Batch → Task
   some_costs : Costs → Task
   a_service : Service → Task
   a_prompt : Prompt → Task
+  a_look : Keep → Task
 
 -- a batch, or its costs where values for them are given
 abbrev pub batch_among : (values : Option (List ℕ)) → (heap : Option ℕ) → (is_hinted : Bool) → Task
@@ -218,30 +300,48 @@ service_among rows = record {
   keep = text_among (codes "FOLDER") rows;
 }
 
+-- the word of `keep` with this name, if it is one
+abbrev pub word_named : List ℕ → Option KeepWord
+word_named name =
+    if bytes_eq name (codes "check") then Some checks
+    else if bytes_eq name (codes "show") then Some shows
+    else if bytes_eq name (codes "renew") then Some renews
+    else if bytes_eq name (codes "csv") then Some tabulates
+    else None
+
+-- a look at kept sessions by a word of `keep`, or else a batch
+abbrev pub look_or_batch : Option KeepWord → List Row → Task
+look_or_batch (Some word) rows = a_look (record { word = word; folder = text_among (codes "FOLDER") rows })
+look_or_batch None rows =
+    batch_among (text_among (codes "VALUES") rows) (number_among (codes "BYTES") rows)
+    (is_among (codes "HINTS") rows)
+
 -- by the subcommand and what was found after it
 abbrev pub task_among : (name : List ℕ) → List Row → Task
 task_among name rows =
     if bytes_eq name (codes "serve") then a_service (service_among rows)
     else if bytes_eq name (codes "repl") then a_prompt (prompt_among rows)
-    else
-    batch_among (text_among (codes "VALUES") rows) (number_among (codes "BYTES") rows)
-    (is_among (codes "HINTS") rows)
+    else look_or_batch (word_named name) rows
 
 abbrev pub task_in : Option (List ℕ × List Row) → Task
 task_in None = a_batch (record { heap = None; is_hinted = false })
 task_in (Some p) = task_among p.0 p.1
 
 abbrev pub task_of : List (List ℕ) → Task
-task_of words = task_in (subcommand_of program words)
+task_of words = task_in (subcommand_of (reader_of words) (words_read words))
 
--- clap finds all matches and all faults of such a command
+-- clap finds all matches and all faults of such commands
 pub program_is_simple : is_simple_and_free program ≡ true
 program_is_simple = refl
 
+pub keep_is_simple : is_simple_and_free keep_program ≡ true
+keep_is_simple = refl
+
 -- Worked examples. Batches: two users; no heap, a heap, and one that is too small; costs, and the option twice; hints;
 -- users after `--`. Services: one that ends and one that doesn't; without a port, with too many workers, and with no
--- second for the first line. Prompts: alone, with hints, with files, and with a user, which is refused. Others: no
--- word, no user, an unknown subcommand, and calls for help and for the version.
+-- second for the first line. Prompts: alone, with hints, with files, and with a user, which is refused. Kept sessions:
+-- all are checked, one is checked, shown, begun anew and written as CSV; no folder, no user, and an unknown word.
+-- Others: no word, no user, an unknown subcommand, and calls for help and for the version.
 abbrev pub asked : List (List ℕ) → List (List ℕ)
 asked words = codes "pazkindu" ∷ words
 
@@ -249,7 +349,7 @@ two_users : users_of (asked (codes "batch" ∷ codes "ann" ∷ codes "bob" ∷ [
 unfolding walked
 two_users = refl
 
-no_fault : fault_of program (asked (codes "batch" ∷ codes "ann" ∷ codes "bob" ∷ [])) ≡ []
+no_fault : faults_of (asked (codes "batch" ∷ codes "ann" ∷ codes "bob" ∷ [])) ≡ []
 unfolding walked walk_fault defaults_fault
 no_fault = refl
 
@@ -268,7 +368,7 @@ unfolding walked
 users_with_heap = refl
 
 small_heap :
-    fault_of program (asked (codes "batch" ∷ codes "--heap" ∷ codes "15" ∷ codes "ann" ∷ []))
+    faults_of (asked (codes "batch" ∷ codes "--heap" ∷ codes "15" ∷ codes "ann" ∷ []))
     ≡ kind.ValueValidation ∷ []
 unfolding walked walk_fault defaults_fault
 small_heap = refl
@@ -280,7 +380,7 @@ unfolding walked
 with_values = refl
 
 values_twice :
-    fault_of program (asked (codes "batch" ∷ codes "--csv" ∷ codes "1" ∷ codes "--csv" ∷ codes "2" ∷ codes "ann" ∷ []))
+    faults_of (asked (codes "batch" ∷ codes "--csv" ∷ codes "1" ∷ codes "--csv" ∷ codes "2" ∷ codes "ann" ∷ []))
     ≡ kind.ArgumentConflict ∷ []
 unfolding walked walk_fault defaults_fault
 values_twice = refl
@@ -295,11 +395,11 @@ behind_dashes : users_of (asked (codes "batch" ∷ codes "--" ∷ codes "-x" ∷
 unfolding walked
 behind_dashes = refl
 
-no_word : fault_of program (asked []) ≡ kind.DisplayHelpOnMissingArgumentOrSubcommand ∷ []
+no_word : faults_of (asked []) ≡ kind.DisplayHelpOnMissingArgumentOrSubcommand ∷ []
 unfolding walked walk_fault defaults_fault
 no_word = refl
 
-no_user : fault_of program (asked (codes "batch" ∷ [])) ≡ kind.MissingRequiredArgument ∷ []
+no_user : faults_of (asked (codes "batch" ∷ [])) ≡ kind.MissingRequiredArgument ∷ []
 unfolding walked walk_fault defaults_fault
 no_user = refl
 
@@ -342,20 +442,20 @@ unfolding walked
 served_on = refl
 
 no_port :
-    fault_of program (asked (codes "serve" ∷ codes "--workers" ∷ codes "4" ∷ codes "ann" ∷ []))
+    faults_of (asked (codes "serve" ∷ codes "--workers" ∷ codes "4" ∷ codes "ann" ∷ []))
     ≡ kind.MissingRequiredArgument ∷ []
 unfolding walked walk_fault defaults_fault
 no_port = refl
 
 many_workers :
-    fault_of program
+    faults_of
     (asked (codes "serve" ∷ codes "--port" ∷ codes "0" ∷ codes "--workers" ∷ codes "65" ∷ codes "ann" ∷ []))
     ≡ kind.ValueValidation ∷ []
 unfolding walked walk_fault defaults_fault
 many_workers = refl
 
 no_second :
-    fault_of program
+    faults_of
     (asked (codes "serve" ∷ codes "--port=0" ∷ codes "--workers=4" ∷ codes "--first-line=0" ∷ codes "ann" ∷ []))
     ≡ kind.ValueValidation ∷ []
 unfolding walked walk_fault defaults_fault
@@ -378,18 +478,66 @@ unfolding walked
 prompt_with_files = refl
 
 prompt_for_user :
-    fault_of program (asked (codes "repl" ∷ codes "ann" ∷ [])) ≡ kind.UnknownArgument ∷ []
+    faults_of (asked (codes "repl" ∷ codes "ann" ∷ [])) ≡ kind.UnknownArgument ∷ []
 unfolding walked walk_fault defaults_fault
 prompt_for_user = refl
 
-unknown : fault_of program (asked (codes "listen" ∷ [])) ≡ kind.UnknownArgument ∷ kind.InvalidSubcommand ∷ []
+all_checked :
+    task_of (asked (codes "keep" ∷ codes "check" ∷ codes "sessions" ∷ []))
+    ≡ a_look (record { word = checks; folder = Some (codes "sessions") })
+unfolding walked
+all_checked = refl
+
+checked_of_all : users_of (asked (codes "keep" ∷ codes "check" ∷ codes "sessions" ∷ [])) ≡ []
+unfolding walked
+checked_of_all = refl
+
+checked_of_one :
+    users_of (asked (codes "keep" ∷ codes "check" ∷ codes "sessions" ∷ codes "ann" ∷ [])) ≡ codes "ann" ∷ []
+unfolding walked
+checked_of_one = refl
+
+shown_of_one :
+    task_of (asked (codes "keep" ∷ codes "show" ∷ codes "sessions" ∷ codes "ann" ∷ []))
+    ≡ a_look (record { word = shows; folder = Some (codes "sessions") })
+unfolding walked
+shown_of_one = refl
+
+renewed :
+    task_of (asked (codes "keep" ∷ codes "renew" ∷ codes "sessions" ∷ codes "ann" ∷ []))
+    ≡ a_look (record { word = renews; folder = Some (codes "sessions") })
+unfolding walked
+renewed = refl
+
+tabulated :
+    task_of (asked (codes "keep" ∷ codes "csv" ∷ codes "sessions" ∷ []))
+    ≡ a_look (record { word = tabulates; folder = Some (codes "sessions") })
+unfolding walked
+tabulated = refl
+
+no_folder : faults_of (asked (codes "keep" ∷ codes "check" ∷ [])) ≡ kind.MissingRequiredArgument ∷ []
+unfolding walked walk_fault defaults_fault
+no_folder = refl
+
+nobody_shown :
+    faults_of (asked (codes "keep" ∷ codes "show" ∷ codes "sessions" ∷ [])) ≡ kind.MissingRequiredArgument ∷ []
+unfolding walked walk_fault defaults_fault
+nobody_shown = refl
+
+unknown_word :
+    faults_of (asked (codes "keep" ∷ codes "list" ∷ codes "sessions" ∷ []))
+    ≡ kind.UnknownArgument ∷ kind.InvalidSubcommand ∷ []
+unfolding walked walk_fault defaults_fault
+unknown_word = refl
+
+unknown : faults_of (asked (codes "listen" ∷ [])) ≡ kind.UnknownArgument ∷ kind.InvalidSubcommand ∷ []
 unfolding walked walk_fault defaults_fault
 unknown = refl
 
-help : fault_of program (asked (codes "--help" ∷ [])) ≡ kind.DisplayHelp ∷ []
+help : faults_of (asked (codes "--help" ∷ [])) ≡ kind.DisplayHelp ∷ []
 unfolding walked walk_fault defaults_fault
 help = refl
 
-version : fault_of program (asked (codes "--version" ∷ [])) ≡ kind.DisplayVersion ∷ []
+version : faults_of (asked (codes "--version" ∷ [])) ≡ kind.DisplayVersion ∷ []
 unfolding walked walk_fault defaults_fault
 version = refl

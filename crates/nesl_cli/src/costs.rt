@@ -8,6 +8,7 @@ use crate::run::open_house;
 use linked_list_allocator::LocalHeap;
 use nesl_house::house::House;
 use nesl_house::manner::{InHeap, Plainly};
+use nesl_kept::cells::{find_costs, find_fault};
 use nesl_line::batch::answer_text;
 use nesl_line::device::{Sink, Source};
 use nesl_line::exchange::MOST_READS;
@@ -208,12 +209,12 @@ fn find_last_line(text: &[u8]) -> &[u8] {
     }
 }
 
-// Formats the row of a value: the work and the depth of its last answer, or else its fault.
+// Formats the row of a value: the work and the depth of its last answer, or else its fault, or `no cost`.
 fn format_row(alloc: Global, value: &str, answer: &[u8]) -> Result<Vec<u8>, AllocError> {
     let none = b"".as_slice();
-    let (work, depth, fault) = match find_cost(answer) {
-        Some((work, depth)) => (work, depth, none),
-        None => (none, none, find_fault(answer)),
+    let (work, depth, fault) = match find_costs(answer) {
+        Some(costs) => (costs.work, costs.depth, none),
+        None => (none, none, find_fault(answer).unwrap_or(b"no cost")),
     };
     let mut row = Vec::new(alloc);
     for part in [
@@ -229,25 +230,4 @@ fn format_row(alloc: Global, value: &str, answer: &[u8]) -> Result<Vec<u8>, Allo
         row.extend_from_slice(part)?;
     }
     Ok(row)
-}
-
-// Finds the work and the depth at the end of an answer.
-fn find_cost(answer: &[u8]) -> Option<(&[u8], &[u8])> {
-    let inner = answer.strip_suffix(b")".as_slice())?;
-    let open = inner.iter().rposition(|byte| *byte == b'(')?;
-    let inner = inner.get(open..)?.strip_prefix(b"(work ".as_slice())?;
-    let comma = inner.iter().position(|byte| *byte == b',')?;
-    let depth = inner.get(comma..)?.strip_prefix(b", depth ".as_slice())?;
-    Some((inner.get(..comma)?, depth))
-}
-
-// Returns the word of the fault that an answer is, or `no cost` for any other answer.
-fn find_fault(answer: &[u8]) -> &[u8] {
-    match answer.strip_prefix(b"fault ".as_slice()) {
-        Some(name) => match name.iter().position(|byte| *byte == b' ') {
-            Some(end) => name.get(..end).unwrap_or(name),
-            None => name,
-        },
-        None => b"no cost",
-    }
 }

@@ -9,6 +9,7 @@ use crate::costs::CostsFault;
 use crate::prompt::PromptFault;
 use clap::error::ErrorKind;
 use nesl_house::roster::NewFault;
+use nesl_kept::failure::LookFailure;
 use nesl_line::exchange::End;
 use nesl_prompt::shelf::ShelfFault;
 use nesl_service::service::ServeFault;
@@ -49,6 +50,9 @@ pub enum Failure<'a> {
     /// Sessions can't be kept in this folder, for this reason.
     #[error("serve: can't keep sessions in {0}\n{1}")]
     Folder(&'a str, FolderRefusal),
+    /// Kept sessions could not be looked at.
+    #[error("{0}")]
+    Kept(LookFailure<'a>),
     /// A prompt ended before the end of input.
     #[error("{0}")]
     Prompt(PromptFault),
@@ -102,6 +106,7 @@ impl<'a> Failure<'a> {
         match words.get(1) {
             Some(word) if *word == "serve" => Failure::Serve(ServeFault::Memory),
             Some(word) if *word == "repl" => Failure::Prompt(PromptFault::Memory),
+            Some(word) if *word == "keep" => Failure::Kept(LookFailure::Memory),
             _ => Failure::Memory,
         }
     }
@@ -127,7 +132,8 @@ impl<'a> Failure<'a> {
             Failure::Encoding | Failure::Count | Failure::Name(_) | Failure::Twice(_) => 2,
             Failure::Costs(_) | Failure::Taken(_) | Failure::Prompt(_) => 1,
             Failure::Stats(_, _) | Failure::Folder(_, _) => 1,
-            Failure::Value(_) => 2,
+            Failure::Value(_) | Failure::Kept(LookFailure::Name(_)) => 2,
+            Failure::Kept(_) => 1,
         }
     }
 }

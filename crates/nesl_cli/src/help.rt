@@ -1,5 +1,5 @@
 //! The help texts. Their lines are broken by hand, so that printed lines have at most 79 columns. Beside the options of
-//! `batch` there are 57 columns, and beside those of `serve` 44.
+//! `batch` there are 57 columns, beside those of `serve` 44, and beside those of the commands of `keep` 66.
 
 pub(crate) const ABOUT: &str = "NESL sessions for many users, every reply of which is proved";
 
@@ -79,12 +79,30 @@ pub(crate) const REPL_FILES: &str = "\
 Lets :load and :save open files also if standard input is no
 terminal";
 
+pub(crate) const KEPT: &str = "Looks at the sessions that `serve --keep` keeps";
+
+pub(crate) const KEPT_CHECK: &str = "Says which sessions come back, and why others don't";
+
+pub(crate) const KEPT_SHOW: &str = "Shows the lines of a user, each with its answer below it";
+
+pub(crate) const KEPT_RENEW: &str =
+    "Begins the session of a user anew, and puts the old file aside";
+
+pub(crate) const KEPT_CSV: &str = "Writes the lines of all users, or of one, as CSV";
+
+pub(crate) const KEPT_FOLDER: &str = "The folder of `serve --keep FOLDER`";
+
+pub(crate) const KEPT_USER: &str =
+    "A user's name: 1 to 16 small letters and digits, a letter first";
+
 pub(crate) const BATCH_EXAMPLE: &str = "For example: pazkindu batch ann bob < lines";
 
 pub(crate) const SERVE_EXAMPLE: &str =
     "For example: pazkindu serve --port 7000 --workers 4 ann bob";
 
 pub(crate) const REPL_EXAMPLE: &str = "For example: pazkindu repl";
+
+pub(crate) const KEPT_EXAMPLE: &str = "For example: pazkindu keep check sessions ann";
 
 pub(crate) const BATCH_AFTER: &str = "\
 A line `user NAME` selects the user that the lines after it are for. Each
@@ -151,6 +169,84 @@ standard input is none, :load and :save are refused, but with --files.
 Exit status: 0 at :quit and at the end of input, 1 if a device or memory
 failed, 2 if the words are wrong.";
 
+pub(crate) const KEPT_AFTER: &str = "\
+`pazkindu serve --keep sessions` keeps the session of each user in a file of
+the folder `sessions`: a head, and the lines since the last :reset. Then
+
+    pazkindu keep check sessions
+    pazkindu keep show sessions ann
+    pazkindu keep csv sessions > class.csv
+
+may be called at any time, also while the folder is served. They write nothing
+into it. Each answers the lines anew, which takes up to some seconds for a
+session that has used up its work.
+
+    pazkindu keep renew sessions ann
+
+begins a session anew. It is refused while the folder is served.
+
+Exit status: 0 if all went well, 1 if a session can't be had or a device or
+memory failed, 2 if the words or the user's name are wrong.";
+
+pub(crate) const KEPT_CHECK_AFTER: &str = "\
+Without USER it looks at all files of the folder, in the order of their names,
+and prints a line for each, as
+
+    ann comes back: 12 lines, 345 bytes
+    bob comes back: 3 lines, 90 bytes, of which 17 after the last line don't count
+    eve can't be read: it is a link
+    zed doesn't come back: line 3 isn't stored by this version
+
+A session comes back if the first line of its file is a head, and if the session
+that this head names stores each of the other lines again. The lines are counted
+without the head, but in `line 3` the head is line 1. What a crash left after
+the last line doesn't count, and is dropped when the user comes.
+
+Exit status: 0 if all sessions come back, 1 if one doesn't or can't be read, or
+if a device or memory failed, 2 if the words or the user's name are wrong.";
+
+pub(crate) const KEPT_SHOW_AFTER: &str = "\
+It prints each line of the user since the last :reset after a `>`, and below it
+the answer, as
+
+    > x = 3;
+    x = 3 : int (work 1, depth 1)
+    > x + 1;
+    it = 4 : int (work 3, depth 3)
+
+If a line is no UTF-8 or has control characters, its bytes are shown as \\x1b,
+apart from the printable ones of ASCII.
+
+Exit status: 0 if the session comes back, 1 if it doesn't or can't be read, or
+if a device or memory failed, 2 if the words or the user's name are wrong.";
+
+pub(crate) const KEPT_RENEW_AFTER: &str = "\
+The file of the user gets another name in the folder: the user's with the time
+in UTC, as ann.2026-11-30T12-00-00Z. No other file is replaced. Nobody is in the
+way of this name, since a user's has no dot. The next connection of the user
+begins with an empty session. To take the old one up again, give the file its
+name back while the folder isn't served.
+
+Exit status: 0 if the file was put aside, 1 if the folder is served, if there is
+no such file, or if a device or memory failed, 2 if the words or the user's name
+are wrong.";
+
+pub(crate) const KEPT_CSV_AFTER: &str = "\
+The first row has the names of the columns, and after it there is one for each
+line since its user's last :reset, as
+
+    user,line,answer,value,type,work,depth,fault
+    ann,x = 3;,\"x = 3 : int (work 1, depth 1)\",3,int,1,1,
+    ann,1 / 0;,fault division at 0..5 (work 3),,,,,division
+
+A cell that isn't in the answer is empty. If a line is no UTF-8 or has control
+characters, its bytes are written as \\x1b, apart from the printable ones of
+ASCII. If a session doesn't come back, its lines up to there have rows, and
+standard error has the reason.
+
+Exit status: 0 if all sessions come back, 1 if one doesn't or can't be read, or
+if a device or memory failed, 2 if the words or the user's name are wrong.";
+
 pub(crate) const PROGRAM_AFTER: &str = "\
 `pazkindu repl` opens a session to try things in. For others, with one user
 whose name is ann,
@@ -158,5 +254,6 @@ whose name is ann,
     printf 'user ann\\n2 * 3 + 1;\\n' | pazkindu batch ann
 
 prints `user ann` and `it = 7 : int (work 5, depth 5)`. `pazkindu repl --help`,
-`pazkindu batch --help` and `pazkindu serve --help` say more; README.md is
-where the guide begins, and docs/LANGUAGE.md has the language.";
+`pazkindu batch --help`, `pazkindu serve --help` and `pazkindu keep --help` say
+more; README.md is where the guide begins, and docs/LANGUAGE.md has the
+language.";

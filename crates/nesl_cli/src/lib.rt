@@ -5,6 +5,8 @@
 pub mod costs;
 pub mod failure;
 mod help;
+pub mod keep_words;
+mod kept;
 pub mod prompt;
 pub mod run;
 pub mod terms;

@@ -1,21 +1,23 @@
 //! Runs what the command line asks for.
 ghost use Rattle.std.specs.Prelude.{◌≡◌, ℕ, Bool, List, Option, IfOk, OnOk, OnErr, IfErr, Err, map};
-ghost use Rattle.clap.specs.Words.{fault_of, HasKind};
+ghost use Rattle.clap.specs.Words.{HasKind};
 ghost use Rattle.clap.specs.declared.error.Error as clap;
 ghost use Rattle.nesl_house.specs.Roster.{IsRoster, new_house};
 ghost use Rattle.nesl_line.specs.declared.exchange.End.TheVariants as end;
-ghost use Rattle.nesl_cli.specs.Words.{program, task_of, users_of};
+ghost use Rattle.nesl_cli.specs.Words.{faults_of, task_of, users_of};
 ghost use Rattle.nesl_cli.specs.Program.{limits, Batched, IsCarriedOut, BatchFails, Served, TaskFails, Untouched};
 ghost use Rattle.nesl_cli.specs.declared.failure.Failure.{Failure};
 ghost use Rattle.nesl_cli.specs.declared.failure.Refusal.TheVariants as refusal;
 
 use crate::costs::write_costs;
 use crate::failure::{Failure, Refusal};
+use crate::kept::run_keep;
 use crate::prompt::{PromptDevices, run_prompt};
 use crate::words::{self, Service, Task};
 use linked_list_allocator::LocalHeap;
 use nesl_house::house::House;
 use nesl_house::manner::{InHeap, Manner, Plainly};
+use nesl_kept::folder::KeptFolders;
 use nesl_line::batch::batch_by;
 use nesl_line::device::{Sink, Source};
 use nesl_line::exchange::Ran;
@@ -42,9 +44,9 @@ pub struct Offer<'a> {
     pub service: Service<'a>,
 }
 
-/// Does what the command line asks for. It runs a batch, its costs or a prompt. For a service it returns the offer,
-/// which the caller has to keep.
-pub fn carry_out<'a, S: Source, W: Sink, F: Shelf>(
+/// Does what the command line asks for. It runs a batch, its costs or a prompt, or looks at kept sessions. For a
+/// service it returns the offer, which the caller has to keep.
+pub fn carry_out<'a, S: Source, W: Sink, F: Shelf + KeptFolders>(
     alloc: Global,
     words: &'a [&'a str],
     devices: &PromptDevices<'_, F>,
@@ -59,7 +61,7 @@ pub fn carry_out<'a, S: Source, W: Sink, F: Shelf>(
         (users_of (map (λ word. word.now) words.entry.now))
         (S.left reader.old) (S.left reader.new) (W.held writer.old) (W.held writer.new) }
     ensures words { (error : clap.Error) → result ≡ Err (refusal.Words error)
-        → HasKind (fault_of program (map (λ word. word.now) words.entry.now)) error
+        → HasKind (faults_of (map (λ word. word.now) words.entry.now)) error
         × Untouched (S.left reader.old) (S.left reader.new) (W.held writer.old) (W.held writer.new) }
 {
     let wanted = match words::read(alloc, words) {
@@ -90,6 +92,10 @@ pub fn carry_out<'a, S: Source, W: Sink, F: Shelf>(
                 Err(failure) => Err(Refusal::Run(failure)),
             }
         }
+        Task::Keep(keep) => match run_keep(alloc, devices.files, keep, users.as_slice(), writer) {
+            Ok(()) => Ok(None),
+            Err(failure) => Err(Refusal::Run(failure)),
+        },
         Task::Service(service) => Ok(Some(Offer { users, service })),
     }
 }

@@ -1,13 +1,14 @@
 //! The words of the command line.
 
-ghost use Rattle.std.specs.Prelude.{◌≡◌, IfOk, codes, false, map, option_map};
+ghost use Rattle.std.specs.Prelude.{◌≡◌, IfNone, IfOk, IfSome, codes, drop, false, map, option_map, true};
 ghost use Rattle.clap.specs.Walk.{rule_of, rows_of, Rule};
 ghost use Rattle.clap.specs.Matches.{found_of};
-ghost use Rattle.clap.specs.Simple.{App, Shape, with_subcommand};
-ghost use Rattle.clap.specs.Words.{app_of, fault_of, FailsBy, subcommand_rows_of};
+ghost use Rattle.clap.specs.Simple.{App, Shape, subcommand_of, with_subcommand};
+ghost use Rattle.clap.specs.Words.{app_of, fault_of, FailsBy, is_simple, is_simple_and_free, subcommand_rows_of};
 ghost use Rattle.nesl_cli.specs.Shapes.{IsShaped, with_rule};
 ghost use Rattle.nesl_cli.specs.Words.{batch, connections_rule, csv_rule, files_rule, first_line_rule, heap_rule};
-ghost use Rattle.nesl_cli.specs.Words.{hints_rule, idle_rule, is_among, keep_rule, log_rule, number_among, number_rule};
+ghost use Rattle.nesl_cli.specs.Words.{faults_of, hints_rule, idle_rule, is_among, is_keep, keep_rule, log_rule};
+ghost use Rattle.nesl_cli.specs.Words.{number_among, number_rule};
 ghost use Rattle.nesl_cli.specs.Words.{port_rule, program, repl, serve, service_among, stats_rule, task_among};
 ghost use Rattle.nesl_cli.specs.Words.{web_host_rule, web_rule, batch_among, task_in, task_of, text_among};
 ghost use Rattle.nesl_cli.specs.Words.{text_rule, users_among, users_in, users_of, users_rule};
@@ -15,6 +16,7 @@ ghost use Rattle.nesl_cli.specs.Words.{without_subcommands, workers_rule};
 ghost use Rattle.nesl_cli.specs.Wanted.{service_wanted, task_wanted, users_wanted};
 
 use crate::help;
+use crate::keep_words::{Keep, keep_command, keep_listed, word_named};
 use clap::builder::ValueParser;
 use clap::{Arg, ArgAction, ArgMatches, Command, Error};
 use std::alloc::{AllocError, Global};
@@ -62,6 +64,8 @@ pub enum Task<'a> {
         /// Whether files may be opened even if standard input is no terminal.
         has_files: bool,
     },
+    /// A look at kept sessions, of the one user that is named or of all.
+    Keep(Keep<'a>),
 }
 
 /// The options of `serve`. `workers` is the number of helpers, and `connections` the number of connections after which
@@ -96,9 +100,42 @@ pub struct Wanted<'a> {
 pub fn read<'a>(alloc: Global, words: &'a [&'a str]) -> Result<Wanted<'a>, Error>
     ensures users { IfOk result (λ wanted. users_wanted wanted ≡ users_of (map (λ word. word.now) words.entry.now)) }
     ensures task { IfOk result (λ wanted. task_wanted wanted.task ≡ task_of (map (λ word. word.now) words.entry.now)) }
-    ensures faults { FailsBy (fault_of program (map (λ word. word.now) words.entry.now)) result }
+    ensures faults { FailsBy (faults_of (map (λ word. word.now) words.entry.now)) result }
 {
-    let matches = command(alloc)?.try_get_matches_from(words)?;
+    match from_keep(words) {
+        Some(words) => read_by(alloc, keep_command(alloc), words),
+        None => read_by(alloc, command(alloc), words),
+    }
+}
+
+// Returns the words from `keep` on, if that is the word after the program's name. It has commands of its own.
+fn from_keep<'a>(words: &'a [&'a str]) -> Option<&'a [&'a str]>
+    ensures some { IfSome result (λ rest. (is_keep (map (λ word. word.now) words.entry.now) ≡ true)
+        × (map (λ word. word.now) rest.now ≡ drop 1 (map (λ word. word.now) words.entry.now))) }
+    ensures none { IfNone result (is_keep (map (λ word. word.now) words.entry.now) ≡ false) }
+{
+    match words.get(1) {
+        Some(word) if *word == "keep" => Some(&words[1..]),
+        _ => None,
+    }
+}
+
+// Reads words by a command, if memory suffices for that.
+fn read_by<'a>(
+    alloc: Global,
+    command: Result<Command<'a>, AllocError>,
+    words: &'a [&'a str],
+) -> Result<Wanted<'a>, Error>
+    ensures users { (app : App) → is_simple app ≡ true → IfOk command.entry (λ command. app_of command ≡ app)
+        → IfOk result (λ wanted. users_wanted wanted
+        ≡ users_in (subcommand_of app (map (λ word. word.now) words.entry.now))) }
+    ensures task { (app : App) → is_simple app ≡ true → IfOk command.entry (λ command. app_of command ≡ app)
+        → IfOk result (λ wanted. task_wanted wanted.task
+        ≡ task_in (subcommand_of app (map (λ word. word.now) words.entry.now))) }
+    ensures faults { (app : App) → is_simple_and_free app ≡ true → IfOk command.entry (λ command. app_of command ≡ app)
+        → FailsBy (fault_of app (map (λ word. word.now) words.entry.now)) result }
+{
+    let matches = command?.try_get_matches_from(words)?;
     Ok(wanted_in(alloc, &matches)?)
 }
 
@@ -107,6 +144,7 @@ pub fn example(words: &[&str]) -> &'static str {
     match words.get(1) {
         Some(word) if *word == "serve" => help::SERVE_EXAMPLE,
         Some(word) if *word == "repl" => help::REPL_EXAMPLE,
+        Some(word) if *word == "keep" => help::KEPT_EXAMPLE,
         _ => help::BATCH_EXAMPLE,
     }
 }
@@ -117,7 +155,8 @@ fn command<'a>(alloc: Global) -> Result<Command<'a>, AllocError>
 {
     let with_batch = with_subcommand(Ok(without_subcommands(alloc)), batch(alloc));
     let with_serve = with_subcommand(with_batch, serve(alloc));
-    with_subcommand(with_serve, repl(alloc))
+    let with_repl = with_subcommand(with_serve, repl(alloc));
+    with_subcommand(with_repl, keep_listed(alloc))
 }
 
 // The program without its subcommands.
@@ -132,8 +171,8 @@ fn without_subcommands<'a>(alloc: Global) -> Command<'a>
         .arg_required_else_help(true)
 }
 
-// Adds a subcommand to the program, if memory suffices for both.
-fn with_subcommand<'a>(
+/// Adds a subcommand to a program, if memory suffices for both.
+pub(crate) fn with_subcommand<'a>(
     program: Result<Command<'a>, AllocError>,
     subcommand: Result<Command<'a>, AllocError>,
 ) -> Result<Command<'a>, AllocError>
@@ -143,8 +182,8 @@ fn with_subcommand<'a>(
     program?.subcommand(subcommand?)
 }
 
-// Adds an option to a command, if memory suffices for it.
-fn with_option<'a>(
+/// Adds an option to a command, if memory suffices for it.
+pub(crate) fn with_option<'a>(
     command: Result<Command<'a>, AllocError>,
     option: Arg<'a>,
 ) -> Result<Command<'a>, AllocError>
@@ -192,7 +231,7 @@ fn serve<'a>(alloc: Global) -> Result<Command<'a>, AllocError>
     let with_first_line = with_option(with_idle, first_line(alloc));
     let with_log = with_option(with_first_line, log(alloc));
     let with_stats = with_option(with_log, stats(alloc));
-    let with_keep = with_option(with_stats, keep(alloc));
+    let with_keep = with_option(with_stats, kept_folder(alloc));
     with_option(with_keep, user(alloc))
 }
 
@@ -277,7 +316,7 @@ fn stats<'a>(alloc: Global) -> Arg<'a>
     text(alloc, "FILE", "stats", help::STATS)
 }
 
-fn keep<'a>(alloc: Global) -> Arg<'a>
+fn kept_folder<'a>(alloc: Global) -> Arg<'a>
     ensures rule { rule_of result ≡ keep_rule }
     ensures local { result.global ≡ false }
 {
@@ -384,14 +423,20 @@ fn task_found<'a>(name: &str, matches: &ArgMatches<'a>) -> Task<'a>
     ensures { task_wanted result ≡ task_among name.now (rows_of (found_of matches.now)) }
 {
     if name == "serve" {
-        Task::Service(service_found(matches))
-    } else if name == "repl" {
-        Task::Prompt {
+        return Task::Service(service_found(matches));
+    }
+    if name == "repl" {
+        return Task::Prompt {
             is_hinted: has_flag(matches, "HINTS"),
             has_files: has_flag(matches, "FILES"),
-        }
-    } else {
-        batch_found(matches)
+        };
+    }
+    match word_named(name) {
+        Some(word) => Task::Keep(Keep {
+            word,
+            folder: text_option(matches, "FOLDER"),
+        }),
+        None => batch_found(matches),
     }
 }
 
@@ -431,7 +476,7 @@ fn number_option(matches: &ArgMatches<'_>, name: &str) -> Option<usize>
     matches.get_one(name)
 }
 
-fn text_option<'a>(matches: &ArgMatches<'a>, name: &str) -> Option<&'a str>
+pub(crate) fn text_option<'a>(matches: &ArgMatches<'a>, name: &str) -> Option<&'a str>
     ensures { option_map (λ text. text.now) result ≡ text_among name.now (rows_of (found_of matches.now)) }
 {
     matches.get_str(name)

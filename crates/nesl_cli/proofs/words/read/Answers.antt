@@ -1,32 +1,44 @@
-use Rattle.std.proofs.Common.{◌≡◌, true, subst, sym, ap, ◌∙◌, map, [], refl}
-use Rattle.std.proofs.lemmas.Result.{err_from_is_err_and}
-use Rattle.clap.specs.Words.{fault_of, HasKind, HasMatchesOf, is_simple}
-use Rattle.clap.specs.Faults.{is_simple_and_free}
-use Rattle.nesl_cli.specs.Words.{program, program_is_simple, users_in, task_in}
+use Rattle.std.proofs.Common.{◌≡◌, ℕ, List, true, false, if◌then◌else◌, subst, sym, ap, ◌∙◌, map, drop, refl, IfOk}
+use Rattle.clap.specs.Simple.{App, subcommand_of}
+use Rattle.clap.specs.Words.{fault_of, FailsBy}
+use Rattle.nesl_cli.specs.Wanted.{users_wanted, task_wanted}
+use Rattle.nesl_cli.specs.Words.{program, keep_program, program_is_simple, keep_is_simple, is_keep, reader_of, words_read, users_in, task_in}
 use Rattle.nesl_cli.proofs.words.read.Goals as goal
 
-simple : is_simple program ≡ true
-simple = refl
+-- which command reads the words
+with_keep : (P : App → List (List ℕ) → Type 0) (words rest : List (List ℕ)) → is_keep words ≡ true → rest ≡ drop 1 words → P keep_program rest → P (reader_of words) (words_read words)
+with_keep P words rest e is p =
+    subst (λ app. P app (words_read words)) (sym (ap (λ b. if b then keep_program else program) e))
+    (subst (P keep_program) (sym (ap (λ b. if b then drop 1 words else words) e ∙ sym is)) p)
 
-pub returns-in_err-matches-clause-faults : goal.returns-in_err-matches-clause-faults
-returns-in_err-matches-clause-faults c =
-    let words = map (λ word. word.now) c.args.words.now in
-    let is_free = subst (λ app. is_simple_and_free app ≡ true) (sym c.in_ok-command.ensures) program_is_simple in
-    let fails = subst (λ app. HasKind (fault_of app words) c.in_err-matches.field-0.0) c.in_ok-command.ensures (c.in_err-matches.ensures.kinds is_free) in
-    let p = err_from_is_err_and c.from_residual-in_err-matches.result c.from_residual-in_err-matches.ensures.1 in
-    rw (p.1, p.2) fails
+without_keep : (P : App → List (List ℕ) → Type 0) (words : List (List ℕ)) → is_keep words ≡ false → P program words → P (reader_of words) (words_read words)
+without_keep P words e p =
+    subst (λ app. P app (words_read words)) (sym (ap (λ b. if b then keep_program else program) e))
+    (subst (P program) (sym (ap (λ b. if b then drop 1 words else words) e)) p)
 
-pub returns-clause-faults : goal.returns-clause-faults
-returns-clause-faults c =
-    let is_free = subst (λ app. is_simple_and_free app ≡ true) (sym c.in_ok-command.ensures) program_is_simple in
-    subst (λ app. fault_of app (map (λ word. word.now) c.args.words.now) ≡ []) c.in_ok-command.ensures (c.in_ok-matches.ensures.kinds is_free)
+pub returns-in-Some-clause-users : goal.returns-in-Some-clause-users
+returns-in-Some-clause-users c =
+    with_keep (λ app ws. IfOk c.read_by.result (λ wanted. users_wanted wanted ≡ users_in (subcommand_of app ws))) (map (λ word. word.now) c.args.words.now) (map (λ word. word.now) c.in-Some.words.now) c.in-Some.ensures.some.0 c.in-Some.ensures.some.1
+    (c.read_by.ensures.users keep_program refl c.keep_command.ensures)
 
-pub returns-clause-users : goal.returns-clause-users
-returns-clause-users c =
-    let matches = subst (λ app. HasMatchesOf app (map (λ word. word.now) c.args.words.now) c.in_ok-matches.matches) c.in_ok-command.ensures c.in_ok-matches.ensures.matches in
-    c.in_ok-wanted_in.ensures.users ∙ ap users_in (matches simple).1
+pub returns-in-Some-clause-task : goal.returns-in-Some-clause-task
+returns-in-Some-clause-task c =
+    with_keep (λ app ws. IfOk c.read_by.result (λ wanted. task_wanted wanted.task ≡ task_in (subcommand_of app ws))) (map (λ word. word.now) c.args.words.now) (map (λ word. word.now) c.in-Some.words.now) c.in-Some.ensures.some.0 c.in-Some.ensures.some.1
+    (c.read_by.ensures.task keep_program refl c.keep_command.ensures)
 
-pub returns-clause-task : goal.returns-clause-task
-returns-clause-task c =
-    let matches = subst (λ app. HasMatchesOf app (map (λ word. word.now) c.args.words.now) c.in_ok-matches.matches) c.in_ok-command.ensures c.in_ok-matches.ensures.matches in
-    c.in_ok-wanted_in.ensures.task ∙ ap task_in (matches simple).1
+pub returns-in-Some-clause-faults : goal.returns-in-Some-clause-faults
+returns-in-Some-clause-faults c =
+    with_keep (λ app ws. FailsBy (fault_of app ws) c.read_by.result) (map (λ word. word.now) c.args.words.now) (map (λ word. word.now) c.in-Some.words.now) c.in-Some.ensures.some.0 c.in-Some.ensures.some.1
+    (c.read_by.ensures.faults keep_program keep_is_simple c.keep_command.ensures)
+
+pub returns-in-None-clause-users : goal.returns-in-None-clause-users
+returns-in-None-clause-users c =
+    without_keep (λ app ws. IfOk c.read_by-in-None.result (λ wanted. users_wanted wanted ≡ users_in (subcommand_of app ws))) (map (λ word. word.now) c.args.words.now) c.in-None.ensures.none (c.read_by-in-None.ensures.users program refl c.command.ensures)
+
+pub returns-in-None-clause-task : goal.returns-in-None-clause-task
+returns-in-None-clause-task c =
+    without_keep (λ app ws. IfOk c.read_by-in-None.result (λ wanted. task_wanted wanted.task ≡ task_in (subcommand_of app ws))) (map (λ word. word.now) c.args.words.now) c.in-None.ensures.none (c.read_by-in-None.ensures.task program refl c.command.ensures)
+
+pub returns-in-None-clause-faults : goal.returns-in-None-clause-faults
+returns-in-None-clause-faults c =
+    without_keep (λ app ws. FailsBy (fault_of app ws) c.read_by-in-None.result) (map (λ word. word.now) c.args.words.now) c.in-None.ensures.none (c.read_by-in-None.ensures.faults program program_is_simple c.command.ensures)

@@ -19,5 +19,5 @@ returns c =
     let has_first_line = c.with_option-with_first_line.ensures _ first_line_rule c.first_line.ensures.rule has_idle in
     let has_log = c.with_option-with_log.ensures _ log_rule c.log.ensures.rule has_first_line in
     let has_stats = c.with_option-with_stats.ensures _ stats_rule c.stats.ensures.rule has_log in
-    let has_keep = c.with_option-with_keep.ensures _ keep_rule c.keep.ensures.rule has_stats in
+    let has_keep = c.with_option-with_keep.ensures _ keep_rule c.kept_folder.ensures.rule has_stats in
     c.with_option.ensures _ users_rule c.user.ensures.rule has_keep
