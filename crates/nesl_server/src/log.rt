@@ -1,8 +1,8 @@
 //! The log of connections on standard error.
 
+use crate::stamp::Stamp;
 use crate::strangers::{LeftOut, Strangers};
 use crossbeam_channel::{Receiver, Sender, bounded};
-use jiff_core::civil::DateTime;
 use nesl_service_records::accepting::AcceptFault;
 use nesl_service_records::journal::{Caller, Seat, Visit};
 use nesl_service_records::keeping::KeepFailure;
@@ -41,35 +41,6 @@ pub struct Log<'x, R> {
 struct Counts {
     lost: AtomicU64,
     done: AtomicU64,
-}
-
-// A time in UTC, as in 2026-11-26T14:37:15Z, or a dash if the clock can't be read.
-#[derive(Drop)]
-struct Stamp(Option<DateTime>);
-
-impl Stamp {
-    fn now(clock: &impl Clock) -> Stamp {
-        match clock.since_1970() {
-            Ok(since) => Stamp(DateTime::from_nanosecond(
-                i128::from(since.as_secs()) * 1_000_000_000,
-            ).ok()),
-            Err(_) => Stamp(None),
-        }
-    }
-}
-
-impl fmt::Display for Stamp {
-    fn fmt<W: fmt::Write>(&self, f: &mut fmt::Formatter<W>) -> fmt::Result {
-        let Some(DateTime { date, time }) = self.0 else {
-            return f.write_str("-");
-        };
-        let (year, month, day) = (date.year, date.month, date.day);
-        let (hour, minute, second) = (time.hour, time.minute, time.second);
-        write!(
-            f,
-            "{year:04}-{month:02}-{day:02}T{hour:02}:{minute:02}:{second:02}Z"
-        )
-    }
 }
 
 impl<'x, R: Threads + Wait + Clock + Eprint + Clone + Send + Drop + 'static> Log<'x, R> {

@@ -8,9 +8,11 @@ ghost use Rattle.nesl_cli.specs.Failures.{status_after, status_of, words_status_
 
 mod disk;
 mod host;
+mod kept;
 mod log;
 mod offer;
 mod replace;
+mod stamp;
 mod standard;
 mod stats;
 mod strangers;
@@ -24,6 +26,7 @@ use nesl_cli::prompt::{PromptDevices, Terminals};
 use nesl_cli::run;
 use nesl_cli::words::example;
 use nesl_keep_file::Storage;
+use nesl_kept::folder::KeptFolders;
 use nesl_line::device::{Device, Sink, Source};
 use nesl_prompt::shelf::Shelf;
 use nesl_service::crowd::STACK_BYTES;
@@ -132,7 +135,7 @@ fn run_program<
         + Send
         + Sync
         + 'static,
-    F: Shelf,
+    F: Shelf + KeptFolders,
     S: Source,
     W: Sink,
 >(
