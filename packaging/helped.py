@@ -87,12 +87,14 @@ def read(words, text):
 
 
 def helps(program):
-    """The help of the program, and then of each of its commands."""
+    """The help of the program, and then of each of its commands, each before its own."""
     def ask(*words):
         ran = subprocess.run([program, *words, "--help"], stdout=subprocess.PIPE, check=True)
         return read(["pazkindu", *words], ran.stdout.decode())
-    top = ask()
-    return [top, *(ask(name) for name in top.own_commands())]
+
+    def below(it):
+        return [it, *(one for name in it.own_commands() for one in below(ask(*it.words[1:], name)))]
+    return below(ask())
 
 
 # The manual page.
@@ -134,7 +136,7 @@ def paragraphs(text):
 def usage(text):
     """A usage line: what is typed as it is is bold, and what is replaced by something is italic."""
     text = re.sub(r"<([^<>]+)>", r"\\fI\1\\fR", escaped(text))
-    return re.sub(r"(?<![\w\\<])(pazkindu(?: [a-z]+)?|\\-\\-[\w\\-]+?)(?= |$)", r"\\fB\1\\fR", text)
+    return re.sub(r"(?<![\w\\<])(pazkindu(?: [a-z]+){0,2}|\\-\\-[\w\\-]+?)(?= |$)", r"\\fB\1\\fR", text)
 
 
 def tagged(head, text):
@@ -162,7 +164,7 @@ def page(found, version, date, more):
     out = [f'.TH PAZKINDU 1 "{date}" "pazkindu {version}" "User Commands"', ".SH NAME",
            f"pazkindu \\- {escaped(top.about)}", ".SH SYNOPSIS"]
     for it in own:
-        out += [usage(it.usage), ".br"]
+        out += [] if it.own_commands() else [usage(it.usage), ".br"]
     out[-1:] = [".SH DESCRIPTION", *paragraphs(top.rest)[1:], ".SH COMMANDS"]
     for it in own:
         out += command(it)
@@ -182,8 +184,10 @@ def cases(found):
     commands = [name for name, _ in top.commands]
     out = [f'        "") words="{" ".join([*commands, *words_of(top)])}" ;;']
     for it in own:
-        valued = " ".join(word for one in it.options if one.value for word in one.words())
-        out.append(f'        {it.words[-1]}) words="{" ".join(words_of(it))}" valued="{valued}" ;;')
+        if len(it.words) == 2:
+            words = " ".join([*(name for name, _ in it.commands), *words_of(it)])
+            valued = " ".join(word for one in it.options if one.value for word in one.words())
+            out.append(f'        {it.words[-1]}) words="{words}" valued="{valued}" ;;')
     if "help" in commands:
         out.append(f'        help) words="{" ".join(commands)}" ;;')
     return "\n".join(out)
