@@ -2,6 +2,7 @@
 use crate::sample::two_users;
 use nesl_keys::admitted::{Admitted, Door};
 use nesl_keys::doors::Doors;
+use nesl_keys::keys::Keys;
 use nesl_keys::sign_in::{SignIn, TurnedAway};
 use std::alloc::{AllocError, Global};
 use std::io;
@@ -170,28 +171,25 @@ fn whoever_comes_is_heard_by_their_word(rt: HostRuntime) -> Result<(), Fail> {
     Ok(())
 }
 
+// A connection with the key of ann, at a door of keys and at one of this address.
+fn at_two_doors<'k>(keys: &'k Keys, query: &'k [u8]) -> Doors<'k, Pieces<'k>> {
+    let pieces = Pieces {
+        bytes: b"user ann 0123456789abcdef0123456789abcdef\n",
+        at: 0,
+        piece: 10,
+        fails_at: 1_000,
+    };
+    let by_key = Door::new(SignIn::Keys(keys), &[], &[]);
+    let by_address = Door::new(SignIn::Address, &[], query);
+    Doors::new(pieces, by_key, by_address)
+}
+
 // Where two doors stand one behind the other, the first line has to open both.
 #[test]
 fn the_address_and_the_key_name_one_user(rt: HostRuntime) -> Result<(), Fail> {
     let keys = two_users(rt.alloc())?;
-    let by_key = Door {
-        sign_in: SignIn::Keys(&keys),
-        headers: &[],
-        query: &[],
-    };
     for (query, wanted) in [("user=ann", "user ann\n"), ("user=bob", "\n")] {
-        let by_address = Door {
-            sign_in: SignIn::Address,
-            headers: &[],
-            query: query.as_bytes(),
-        };
-        let pieces = Pieces {
-            bytes: b"user ann 0123456789abcdef0123456789abcdef\n",
-            at: 0,
-            piece: 10,
-            fails_at: 1_000,
-        };
-        let mut reader = Doors::new(pieces, by_key, by_address);
+        let mut reader = at_two_doors(&keys, query.as_bytes());
         assert!(rt; reader.listen().is_ok());
         let mut heard = Vec::new(rt.alloc());
         assert!(rt; reader.read_to_end(&mut heard).is_ok());
