@@ -1,2 +1,3 @@
 pub mod AccessLemmas
+pub mod AskedLemmas
 pub mod RouteLemmas

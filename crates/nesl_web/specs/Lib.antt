@@ -1,4 +1,5 @@
 pub mod Access
+pub mod Asked
 pub mod Frames
 pub mod Messages
 pub mod Rest

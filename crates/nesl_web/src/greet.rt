@@ -1,6 +1,7 @@
 //! The start of a browser's connection.
 
 use crate::answer::{Content, Refusal, file_head, methods_answer, refusal_answer, upgrade_answer};
+use crate::asked::Asked;
 use crate::head::{HeadFault, read_head};
 use crate::lines::Patience;
 use crate::route::{PageTerms, Route, content_for, route_for};
@@ -20,8 +21,8 @@ const PIECE_SECONDS: u64 = 10;
 pub enum Greeted {
     /// It requested a file or was refused. It was answered with this status, and has ended.
     Answered(u16),
-    /// It is a WebSocket. These bytes followed the head of its request.
-    Session(Vec<u8>),
+    /// It is a WebSocket.
+    Session(Asked),
 }
 
 /// Reads a browser's request, and answers it. The head has as much time as a first line. On a WebSocket, a piece of an
@@ -119,5 +120,5 @@ fn accept_session<R: Clock>(
     };
     let first = Vec::from_slice(alloc, bytes.get(head_bytes..).unwrap_or(&[]))?;
     wire.write_all(answer.as_slice())?;
-    Ok(Greeted::Session(first))
+    Ok(Greeted::Session(Asked { head: bytes, first }))
 }

@@ -3,6 +3,7 @@
 
 pub mod access;
 pub mod answer;
+pub mod asked;
 pub mod frames;
 pub mod greet;
 pub mod head;

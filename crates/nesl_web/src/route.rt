@@ -12,7 +12,7 @@ use std::alloc::{AllocError, Global};
 use websocket::handshake::server::check_request;
 
 /// The most fields of a head.
-const MOST_FIELDS: usize = 64;
+pub(crate) const MOST_FIELDS: usize = 64;
 
 /// What is served to browsers.
 #[derive(Clone, Copy)]

@@ -1,4 +1,4 @@
-/** What this tab keeps over a reload: its user, the forms that were sent, and what is known of the names. */
+/** What this tab keeps over a reload: its user with the key, the forms that were sent, and what it knows of names. */
 
 const PLACE = "pazkindu";
 

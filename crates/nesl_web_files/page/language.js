@@ -25,11 +25,11 @@ export const FAULTS = {
   stride: "The step of a range is at least 1.",
   deep: "More than 1,000 nodes are nested in one another, those of called bodies included.",
   large: "A pair, literal or record would have more than 1,048,576 nodes.",
-  work: "The line needs more work than a line may take, 1,000,000, or than the session has left.",
-  elements: "What is bound would have more than 100,000 nodes.",
+  work: "The line needs more work than a line may take, or than the session has left.",
+  elements: "What is bound would have more nodes than a session may bind.",
   transcript: "The session has no room for this line. The command :reset makes room, and forgets all names.",
   memory: "Memory ran out. The session is as it was.",
-  user: "The server knows no user of this name.",
+  user: "The server knows no user of this name, or the key is missing or wrong.",
   busy: "Another connection has this user, maybe in another tab or window.",
 };
 

@@ -4,17 +4,20 @@ import { keep, kept } from "./kept.js";
 import { grouped, readReply } from "./language.js";
 import { session } from "./session.js";
 
-const WORK = 100000000;
+const WORK = 100000000; // of a whole session, unless its service gives it more
 const QUIET = 120; // milliseconds without a form, before the budget is asked for
 const MOST_ASKED = 60; // types that are asked for where a session is taken up
 
 /** Each name with its type: "" where it is a function's or a datatype's that this tab never received. */
 const names = new Map();
 let waiting = 0;
+/** The work of a whole session, as far as this page knows: no reply has it, so it is the most that was left. */
+let mostWork = WORK;
 
 /** Shows what was kept, and listens to replies. */
 export function openLeft() {
   (kept.names ?? []).forEach(([name, type]) => names.set(name, type));
+  mostWork = kept.mostWork ?? WORK;
   session.addEventListener("told", ({ detail }) => learn(detail.line, readReply(detail.reply)));
   find("ask").addEventListener("click", () => askAll(() => true, Infinity));
   drawNames();
@@ -47,7 +50,7 @@ function learn(line, told) {
   else if (names.has(asked) && told.kind === "type") names.set(asked, told.type);
   else if (names.has(asked) && told.word === "unknown" && !isOfFunction(names.get(asked))) names.set(asked, "");
   else if (told.kind === "budget") drawBars(told);
-  keep({ names: [...names] });
+  keep({ names: [...names], mostWork });
   drawNames();
 }
 
@@ -71,7 +74,8 @@ function drawType(type) {
 function drawBars(told) {
   const most = { elements: told.mostElements, lines: told.mostLines, bytes: told.mostBytes };
   const rows = Object.entries(most).map(([name, all]) => drawBar(name, Number(all) - Number(told[name]), Number(all)));
-  find("bars").replaceChildren(drawBar("work", Number(told.work), WORK), ...rows);
+  mostWork = Math.max(mostWork, Number(told.work));
+  find("bars").replaceChildren(drawBar("work", Number(told.work), mostWork), ...rows);
 }
 
 function drawBar(name, left, most) {

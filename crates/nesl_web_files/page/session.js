@@ -4,7 +4,7 @@ import { bytesOf } from "./language.js";
 const BUSY_TRIES = 5;
 const BUSY_WAIT = 300;
 
-/** The user is in the address for whatever routes connections by it; the first line is what counts. */
+/** The user is in the address for whatever routes connections by it; the first line has to name the same one. */
 const address = (user) => `${location.protocol.replace("http", "ws")}//${location.host}/session?user=${user}`;
 const after = (milliseconds) => new Promise((done) => setTimeout(done, milliseconds));
 
@@ -22,14 +22,14 @@ class Session extends EventTarget {
     return this.socket !== null;
   }
 
-  /** Connects as a user; gives "" once seated, else "user", "busy" or "unreachable". */
-  connect(user) {
+  /** Connects as a user with this key, if there is one; gives "" once seated, else "user", "busy" or "unreachable". */
+  connect(user, key) {
     this.end();
     this.opening?.close();
     return new Promise((settle) => {
       const socket = new WebSocket(address(encodeURIComponent(user)));
       this.opening = socket;
-      socket.onopen = () => socket.send(`user ${user}`);
+      socket.onopen = () => socket.send(key ? `user ${user} ${key}` : `user ${user}`);
       socket.onclose = () => settle("unreachable");
       socket.onmessage = ({ data }) => {
         if (data !== `user ${user}`) return settle(data.replace("fault ", ""));
@@ -40,9 +40,9 @@ class Session extends EventTarget {
   }
 
   /** Connects again: a connection of this tab that has just ended may still have the seat for a moment. */
-  async connectAgain(user) {
+  async connectAgain(user, key) {
     for (let tries = 1; ; tries += 1) {
-      const fault = await this.connect(user);
+      const fault = await this.connect(user, key);
       if (fault !== "busy" || tries === BUSY_TRIES) return fault;
       await after(BUSY_WAIT);
     }

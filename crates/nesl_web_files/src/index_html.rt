@@ -27,10 +27,13 @@ pub static TEXT: &str = r##"<!doctype html>
         aria-describedby="sign-help sign-fault" required>
       <button class="main">Connect</button>
     </div>
+    <label for="key">Key <span class="soft">(if you were given one)</span></label>
+    <input id="key" name="key" type="password" autocomplete="current-password" spellcheck="false" maxlength="32"
+      aria-describedby="sign-help sign-fault">
     <p id="sign-fault" class="wrong" role="alert"></p>
     <p id="sign-help" class="soft">One of the names that the server was started with, for instance <code>ann</code>.
-      There are no passwords. <span id="lasting">A session stays with the server when you leave, and waits for
-      you.</span></p>
+      A server may ask for a key, too; a link with your name and key signs you in. <span id="lasting">A session stays
+      with the server when you leave, and waits for you.</span></p>
   </form>
 </main>
 

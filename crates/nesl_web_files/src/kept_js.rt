@@ -2,7 +2,7 @@
 
 /// The text.
 pub static TEXT: &str =
-    r##"/** What this tab keeps over a reload: its user, the forms that were sent, and what is known of the names. */
+    r##"/** What this tab keeps over a reload: its user with the key, the forms that were sent, and what it knows of names. */
 
 const PLACE = "pazkindu";
 
