@@ -1,9 +1,13 @@
 //! Serves browsers: the files of the page, and users over WebSockets.
 
 use crate::accept::{Accepted, Acceptor};
+use crate::seat::Seating;
 use crate::service::{ServedConnection, Service};
+use crate::streams::Listed;
 use crate::wire::Patience;
 use nesl_eval_helpers::Gate;
+use nesl_keys::admitted::Door;
+use nesl_keys::sign_in::SignIn;
 use nesl_line::device::Device;
 use nesl_line::exchange::End;
 use nesl_line::keeper::Archive;
@@ -11,6 +15,7 @@ use nesl_service_records::accepting::AcceptFault;
 use nesl_service_records::answers::{AnswerObserver, ObservedWriter};
 use nesl_service_records::journal::{Caller, Journal, Missed};
 use nesl_service_records::watch::{Timed, Watch};
+use nesl_web::asked::{Asked, query_of, values_in};
 use nesl_web::greet::{Greeted, greet};
 use nesl_web::lines::{MessageReader, MessageWriter};
 use nesl_web::route::PageTerms;
@@ -101,9 +106,9 @@ impl<'x> PageAcceptor<'x> {
         self.open.fetch_sub(1, Ordering::SeqCst);
     }
 
-    // Whether all of the `lines` threads for lines have ended.
+    // Whether all of the `lines` threads for lines have ended. Without such threads, browsers are served all the same.
     fn is_over(&self, lines: usize) -> bool {
-        self.ended.load(Ordering::SeqCst) >= lines as u64
+        lines > 0 && self.ended.load(Ordering::SeqCst) >= lines as u64
     }
 
     // The number of the next WebSocket.
@@ -172,24 +177,30 @@ impl<
         }
     }
 
-    // Serves a browser, and counts its connection meanwhile. If sessions are kept, its stream is listed. A browser
-    // whose stream can't be listed gets no answer.
+    // Serves a browser, and counts its connection meanwhile. If its stream may have to be shut down, it is listed. A
+    // browser whose stream can't be listed gets no answer.
     fn receive(&self, page: &PageAcceptor<'_>, accepted: &Accepted) {
         let patience = page.begin_connection(self.terms.patience);
         if let Ok(listed) = self.list(&accepted.stream) {
-            self.receive_within(page, accepted, patience);
+            self.receive_within(page, accepted, patience, listed);
             self.unlist(listed);
         }
         page.finish_connection();
     }
 
     // Serves a browser: sends it a file of the page, serves it as a user, or refuses it.
-    fn receive_within(&self, page: &PageAcceptor<'_>, accepted: &Accepted, patience: Patience) {
+    fn receive_within(
+        &self,
+        page: &PageAcceptor<'_>,
+        accepted: &Accepted,
+        patience: Patience,
+        listed: Option<Listed>,
+    ) {
         let stream = &accepted.stream;
         let since = Instant::now(self.rt).ok();
         // Answers are sent without delay, if the system allows it.
         let _ = stream.set_nodelay(true).is_ok();
-        if let Ok(Greeted::Session(first)) = self.greet(page, stream, patience) {
+        if let Ok(Greeted::Session(asked)) = self.greet(page, stream, patience) {
             let caller = Caller {
                 number: page.next_session(),
                 port: accepted.port,
@@ -198,7 +209,12 @@ impl<
             self.journal.begun(caller);
             let begun = Instant::now(self.rt).ok();
             let left = self.after_head(patience, since);
-            let attended = self.serve_messages(caller, stream, first, left);
+            let visitor = Visitor {
+                caller,
+                stream,
+                listed,
+            };
+            let attended = self.serve_asked(visitor, asked, left);
             self.end_connection(caller, begun, &attended);
         }
     }
@@ -212,33 +228,56 @@ impl<
         patience.after(took.unwrap_or(Duration::ZERO))
     }
 
+    // Serves a connection that asked for a session. Where a header names its user, its values are looked up first.
+    // Nothing is read if memory for them runs out.
+    fn serve_asked(
+        &self,
+        visitor: Visitor<'_>,
+        asked: Asked,
+        patience: Patience,
+    ) -> ServedConnection {
+        let Asked { head, first } = asked;
+        let Ok(values) = values_in(self.alloc, head.as_slice(), self.entrance.header) else {
+            return ServedConnection::unread(End::NoMemory);
+        };
+        let doors = Doors {
+            user: Door::new(self.entrance.page, values.as_slice(), &[]),
+            address: door_of_address(head.as_slice()),
+        };
+        self.serve_messages(visitor, doors, first, patience)
+    }
+
     // Serves the messages of a connection; `first` has the bytes that followed its head.
     fn serve_messages(
         &self,
-        caller: Caller,
-        stream: &TcpStream,
+        visitor: Visitor<'_>,
+        doors: Doors<'_>,
         first: Vec<u8>,
         patience: Patience,
     ) -> ServedConnection {
+        let stream = visitor.stream;
         let watch = Watch::new(self.rt, self.journal.is_counting());
         let reader = MessageReader::new(self.rt, self.alloc, stream, first, patience);
         let Ok(writer) = MessageWriter::new(self.rt, self.alloc, stream, patience) else {
             reader.end(REFUSED_DRAIN);
             return ServedConnection::unread(End::NoMemory);
         };
-        let mut reader = Device::new(Timed {
+        let timed = Timed {
             reader,
             watch: &watch,
-        });
+        };
+        let claimant = self.claimant(self.entrance.page, visitor.listed);
+        let mut reader = Device::new(Seating::new(timed, doors.user, doors.address, claimant));
         let mut writer = Device::new(ObservedWriter {
             writer,
-            observer: AnswerObserver::new(&watch, self.journal, caller),
+            observer: AnswerObserver::new(&watch, self.journal, visitor.caller),
         });
         let lines = self.serve(&mut reader, &mut writer);
         let served = lines.served;
-        let Timed { reader, .. } = reader.into_inner();
+        let Timed { reader, .. } = reader.into_inner().into_inner();
         let ObservedWriter { writer, .. } = writer.into_inner();
-        let missed = missed_by(&reader).or(untaken_by(&writer));
+        let late = missed_by(&reader).or(untaken_by(&writer));
+        let missed = self.streams.missed(visitor.listed).or(late);
         let limits = match served.receipt {
             Some(_) => BROWSER_DRAIN,
             None => REFUSED_DRAIN,
@@ -248,6 +287,31 @@ impl<
             reader.end(limits);
         }
         ServedConnection { lines, missed }
+    }
+}
+
+// A connection of a browser that asked for a session.
+#[derive(Clone, Copy)]
+struct Visitor<'x> {
+    caller: Caller,
+    stream: &'x TcpStream,
+    listed: Option<Listed>,
+}
+
+// The doors that a browser's first message has to open.
+#[derive(Clone, Copy)]
+struct Doors<'x> {
+    // By the way in which users of the page are known.
+    user: Door<'x>,
+    // By the address, if it names a user.
+    address: Door<'x>,
+}
+
+// Where the address of a request has a query, that has to name the user. Without one, the first message suffices.
+fn door_of_address(head: &[u8]) -> Door<'_> {
+    match query_of(head) {
+        Some(query) => Door::new(SignIn::Address, &[], query),
+        None => Door::new(SignIn::Word, &[], &[]),
     }
 }
 

@@ -7,6 +7,7 @@ pub mod browse;
 pub mod crowd;
 mod front;
 mod opening;
+pub mod seat;
 pub mod service;
 mod streams;
 pub mod wire;

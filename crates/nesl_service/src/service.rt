@@ -6,12 +6,14 @@ use crate::accept::{Accepted, Acceptor};
 use crate::browse::{Page, PageAcceptor};
 use crate::crowd::{Start, run_crowd};
 use crate::front::Front;
+use crate::seat::{Claimant, Entrance, Seating, by_line, is_by_keys};
 use crate::streams::{Listed, Streams, WholeLines};
 use crate::wire::{Patience, Reader, Writer, drain_after_shutdown};
 use nesl_eval_helpers::sparing::Sparing;
 use nesl_eval_helpers::{Common, Free, Gate, Pool};
 use nesl_house::lease::Receipt;
 use nesl_house::table::{CloseFault, Closed, Table};
+use nesl_keys::sign_in::SignIn;
 use nesl_line::MOST_HANDED;
 use nesl_line::device::{Device, Sink, Source};
 use nesl_line::exchange::End;
@@ -100,7 +102,7 @@ pub(crate) struct ServedLines {
     pub(crate) kept: Option<KeptSum>,
 }
 
-/// A connection that was served: its lines, and what did not come in time.
+/// A connection that was served: its lines, and what it missed.
 #[derive(Clone, Copy)]
 pub(crate) struct ServedConnection {
     pub(crate) lines: ServedLines,
@@ -138,8 +140,9 @@ pub(crate) struct Service<'x, R, L: Ledger, G, J, A> {
     pool: &'x Pool<L>,
     common: &'x Common,
     start: &'x Start,
-    streams: &'x Streams,
+    pub(crate) streams: &'x Streams,
     archive: &'x A,
+    pub(crate) entrance: Entrance<'x>,
     pub(crate) terms: Terms,
     gate: &'x G,
     pub(crate) journal: &'x J,
@@ -179,10 +182,11 @@ impl<
         }
     }
 
-    /// Lists the stream of a connection that begins, if sessions are kept: after a line that could not be kept all
-    /// streams are shut down. Returns how the connection ends if it can't be listed.
+    /// Lists the stream of a connection that begins, if it may have to be shut down: where sessions are kept, after a
+    /// line that could not be kept, and where users have keys, for a newer connection of its user. Returns how the
+    /// connection ends if it can't be listed.
     pub(crate) fn list(&self, stream: &TcpStream) -> Result<Option<Listed>, End> {
-        if !self.archive.is_keeping() {
+        if !self.archive.is_keeping() && !self.entrance.has_keys() {
             return Ok(None);
         }
         match self.streams.list(self.rt, stream) {
@@ -217,8 +221,32 @@ impl<
         self.numbers.lock(self.rt).fault.is_some()
     }
 
+    /// Returns what claims the seat of a user of a port where they are known in this way, if seats are claimed. A
+    /// connection with a key ends older ones.
+    pub(crate) fn claimant(
+        &self,
+        sign_in: SignIn<'_>,
+        listed: Option<Listed>,
+    ) -> Option<Claimant<'x, R>> {
+        if !self.entrance.has_keys() {
+            return None;
+        }
+        Some(Claimant {
+            rt: self.rt,
+            streams: self.streams,
+            listed: listed?,
+            roster: self.table.roster(),
+            is_newest: is_by_keys(sign_in),
+        })
+    }
+
     // Serves one connection. Nothing is read from it if memory for its answers runs out.
-    fn serve_connection(&self, caller: Caller, stream: &TcpStream) -> ServedConnection {
+    fn serve_connection(
+        &self,
+        caller: Caller,
+        stream: &TcpStream,
+        listed: Option<Listed>,
+    ) -> ServedConnection {
         let patience = self.terms.patience;
         let watch = Watch::new(self.rt, self.journal.is_counting());
         let observed = ObservedWriter {
@@ -234,18 +262,22 @@ impl<
                 watch: &watch,
             },
             streams: self.streams,
+            listed,
         };
-        let mut reader = Device::new(Front::new(lines));
+        let sign_in = self.entrance.lines;
+        let claimant = self.claimant(sign_in, listed);
+        let seating = Seating::new(lines, by_line(sign_in), by_line(SignIn::Word), claimant);
+        let mut reader = Device::new(Front::new(seating));
         let mut writer = Device::new(writer);
         let lines = self.serve(&mut reader, &mut writer);
         // Bytes that could not be written are dropped.
         let (observed, _) = writer.into_inner().into_parts();
-        let WholeLines { reader, .. } = reader.into_inner().into_inner();
+        let WholeLines { reader, .. } = reader.into_inner().into_inner().into_inner();
         let Timed { reader, .. } = reader;
-        let missed = reader.missed();
+        let late = reader.missed().or(observed.writer.missed());
         ServedConnection {
             lines,
-            missed: missed.or(observed.writer.missed()),
+            missed: self.streams.missed(listed).or(late),
         }
     }
 
@@ -284,11 +316,11 @@ impl<
         }
     }
 
-    // Serves one connection. Meanwhile its stream is listed, if sessions are kept.
+    // Serves one connection. Meanwhile its stream is listed, if it may have to be shut down.
     fn serve_listed(&self, caller: Caller, stream: &TcpStream) -> ServedConnection {
         match self.list(stream) {
             Ok(listed) => {
-                let attended = self.serve_connection(caller, stream);
+                let attended = self.serve_connection(caller, stream, listed);
                 self.unlist(listed);
                 attended
             }
@@ -422,10 +454,7 @@ impl<
 
     // The number of threads: those for lines and those for browsers.
     fn threads(&self) -> usize {
-        match self.page {
-            Some(page) => self.terms.threads.saturating_add(page.threads()),
-            None => self.terms.threads,
-        }
+        count_threads(self.terms, self.page)
     }
 
     // Runs all threads, and joins them.
@@ -433,6 +462,14 @@ impl<
         let work = |it: &Service<R, L, G, J, A>| it.work();
         let lead = |it: &Service<R, L, G, J, A>, made: usize| it.open(made);
         run_crowd(self.rt, self, self.threads(), &work, &lead);
+    }
+}
+
+// The number of threads by these terms: those for lines and those for browsers.
+fn count_threads(terms: Terms, page: Option<&PageAcceptor<'_>>) -> usize {
+    match page {
+        Some(page) => terms.threads.saturating_add(page.threads()),
+        None => terms.threads,
     }
 }
 
@@ -472,10 +509,17 @@ fn page_acceptor_of(page: Option<Page<'_>>) -> io::Result<Option<PageAcceptor<'_
     }
 }
 
-/// What a service is to do: the page that it shows, its terms, who observes it, and where its sessions are kept.
+/// How users come to a service: the page for browsers, if there is one, and how users are known.
+#[derive(Clone, Copy)]
+pub struct Ways<'x> {
+    pub page: Option<Page<'x>>,
+    pub entrance: Entrance<'x>,
+}
+
+/// What a service is to do: how users come to it, its terms, who observes it, and where its sessions are kept.
 #[derive_where(Clone, Copy)]
 struct Plan<'x, G, J, A> {
-    page: Option<Page<'x>>,
+    ways: Ways<'x>,
     terms: Terms,
     observers: Observers<'x, G, J>,
     archive: &'x A,
@@ -506,7 +550,7 @@ fn serve_in<
     let Ok(acceptor) = Acceptor::new(listener, terms.connections) else {
         return Err(ServeFault::Socket);
     };
-    let Ok(page) = page_acceptor_of(plan.page) else {
+    let Ok(page) = page_acceptor_of(plan.ways.page) else {
         return Err(ServeFault::Socket);
     };
     let start = Start::new();
@@ -516,7 +560,10 @@ fn serve_in<
     let receipts = Mutex::new(receipts);
     let pool: Pool<L> = Pool::new(terms.workers, blank);
     let common = Common::new(processors(rt));
-    let streams = Streams::new(alloc);
+    // Each thread has one connection at a time.
+    let Ok(streams) = Streams::new(alloc, count_threads(terms, page.as_ref())) else {
+        return Err(ServeFault::Memory);
+    };
     let numbers = Mutex::new(Numbers::new(terms.connections.unwrap_or(u64::MAX)));
     let service = Service {
         rt,
@@ -531,6 +578,7 @@ fn serve_in<
         start: &start,
         streams: &streams,
         archive: plan.archive,
+        entrance: plan.ways.entrance,
         terms,
         gate: plan.observers.gate,
         journal: plan.observers.journal,
@@ -622,9 +670,34 @@ pub fn serve_at<
 ) -> Result<Closed, ServeFault>
     ensures { IfOk result (λ c. IsClosed table.roster c.house c.lines) }
 {
+    let ways = Ways {
+        page,
+        entrance: Entrance::by_word(),
+    };
+    serve_by(site, ways, table, terms, observers, archive)
+}
+
+/// Serves users like `serve_at`, known in these ways. Who isn't let in gets no session, and the answer to a first line
+/// that names nobody. Where users are known by their keys, the newest connection of a user gets the seat: an older one
+/// is shut down. Without threads for lines, the listener of the site isn't used, and the service ends only by a fault.
+pub fn serve_by<
+    R: Threads + Wait + Clock + Sync,
+    G: Gate + Sync,
+    J: Journal + Sync,
+    A: Archive + Sync,
+>(
+    site: Site<'_, R>,
+    ways: Ways<'_>,
+    table: Table,
+    terms: Terms,
+    observers: Observers<'_, G, J>,
+    archive: &A,
+) -> Result<Closed, ServeFault>
+    ensures { IfOk result (λ c. IsClosed table.roster c.house c.lines) }
+{
     let blank = Blank::new(u64::from(terms.workers));
     let plan = Plan {
-        page,
+        ways,
         terms,
         observers,
         archive,

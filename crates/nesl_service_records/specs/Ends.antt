@@ -9,14 +9,17 @@ use Rattle.nesl_service_records.specs.declared.journal.Ending.TheVariants as end
 use Rattle.nesl_service_records.specs.declared.numbers.Fault.{Fault}
 use Rattle.nesl_service_records.specs.declared.numbers.Fault.TheVariants as fault
 
--- by how its lines ended, whether it was turned away, and what did not come in time
+-- by how its lines ended, whether it was turned away, and what it missed
 abbrev pub ending_of : End → (is_turned_away : Bool) → Option Missed → Ending
 ending_of lines.Input true waited = ending.TurnedAway
-ending_of lines.Input false waited = ending.Input
+ending_of lines.Input false (Some missed.Seat) = ending.Replaced
+ending_of lines.Input false _ = ending.Input
 ending_of lines.ReadFault away (Some missed.FirstLine) = ending.NoFirstLine
 ending_of lines.ReadFault away (Some missed.Line) = ending.Idle
+ending_of lines.ReadFault away (Some missed.Seat) = ending.Replaced
 ending_of lines.ReadFault away _ = ending.ReadFault
 ending_of lines.WriteFault away (Some missed.Taking) = ending.NotTaken
+ending_of lines.WriteFault away (Some missed.Seat) = ending.Replaced
 ending_of lines.WriteFault away _ = ending.WriteFault
 ending_of lines.NoMemory away waited = ending.NoMemory
 

@@ -26,13 +26,15 @@ pub enum Seat<'a> {
     Busy,
 }
 
-/// What did not come in time.
+/// What a connection missed: what did not come in time, or its seat.
 #[derive(Clone, Copy, PartialEq, Eq, Debug)]
 pub enum Missed {
     FirstLine,
     Line,
     /// The peer did not take an answer.
     Taking,
+    /// A newer connection of the user has the seat.
+    Seat,
 }
 
 /// Why a connection ended.
@@ -48,6 +50,8 @@ pub enum Ending {
     Idle,
     /// The peer did not take an answer in time.
     NotTaken,
+    /// A newer connection of the user has the seat.
+    Replaced,
     ReadFault,
     WriteFault,
     NoMemory,
@@ -55,33 +59,38 @@ pub enum Ending {
 
 impl Ending {
     /// All endings, in the order in which they are counted.
-    pub const ALL: [Ending; 8] = [
+    pub const ALL: [Ending; 9] = [
         Ending::Input,
         Ending::TurnedAway,
         Ending::NoFirstLine,
         Ending::Idle,
         Ending::NotTaken,
+        Ending::Replaced,
         Ending::ReadFault,
         Ending::WriteFault,
         Ending::NoMemory,
     ];
 
-    /// Returns why a connection ended: by the end of its lines, whether it was turned away, and what did not come in
-    /// time.
+    /// Returns why a connection ended: by the end of its lines, whether it was turned away, and what it missed.
     pub fn of(end: End, is_turned_away: bool, missed: Option<Missed>) -> Ending
         ensures { result ≡ ending_of end is_turned_away missed }
     {
         match end {
             End::Input if is_turned_away => Ending::TurnedAway,
-            End::Input => Ending::Input,
+            End::Input => match missed {
+                Some(Missed::Seat) => Ending::Replaced,
+                Some(Missed::FirstLine | Missed::Line | Missed::Taking) | None => Ending::Input,
+            },
             End::ReadFault => match missed {
                 Some(Missed::FirstLine) => Ending::NoFirstLine,
                 Some(Missed::Line) => Ending::Idle,
+                Some(Missed::Seat) => Ending::Replaced,
                 Some(Missed::Taking) | None => Ending::ReadFault,
             },
             End::WriteFault => match missed {
                 Some(Missed::Taking) => Ending::NotTaken,
-                Some(Missed::FirstLine) | Some(Missed::Line) | None => Ending::WriteFault,
+                Some(Missed::Seat) => Ending::Replaced,
+                Some(Missed::FirstLine | Missed::Line) | None => Ending::WriteFault,
             },
             End::NoMemory => Ending::NoMemory,
         }
@@ -95,6 +104,7 @@ impl Ending {
             Ending::NoFirstLine => "no first line",
             Ending::Idle => "idle",
             Ending::NotTaken => "answer not taken",
+            Ending::Replaced => "newer connection",
             Ending::ReadFault => "read fault",
             Ending::WriteFault => "write fault",
             Ending::NoMemory => "no memory",
