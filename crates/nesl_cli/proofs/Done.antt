@@ -3,11 +3,11 @@ use Rattle.std.proofs.Common.{◌≡◌, ℕ, List, Bool, false, Option, refl, s
 use Rattle.nesl_line.specs.declared.exchange.End.TheVariants.{Input}
 use Rattle.nesl_cli.specs.declared.failure.Failure.{Failure}
 use Rattle.nesl_cli.specs.declared.prompt.Terminals.{Terminals}
-use Rattle.nesl_cli.specs.declared.words.Task.{Task as Code}
-use Rattle.nesl_cli.specs.declared.words.Task.TheVariants as code
-use Rattle.nesl_cli.specs.declared.keep_words.Keep.{Keep as Look}
-use Rattle.nesl_cli.specs.Words.{Task, a_batch, a_prompt, a_look, some_costs}
-use Rattle.nesl_cli.specs.Wanted.{task_wanted}
+use Rattle.nesl_words.specs.declared.words.Task.{Task as Code}
+use Rattle.nesl_words.specs.declared.words.Task.TheVariants as code
+use Rattle.nesl_words.specs.declared.keep_words.Keep.{Keep as Look}
+use Rattle.nesl_words.specs.Words.{Task, a_batch, a_prompt, a_look, some_costs}
+use Rattle.nesl_words.specs.Wanted.{task_wanted}
 use Rattle.nesl_line.proofs.Bytes.{consumes_none}
 use Rattle.nesl_cli.specs.Program.{Served, Prompted, BatchFails, PromptFails, TaskDone, TaskFails, is_plain_at}
 

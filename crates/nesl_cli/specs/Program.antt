@@ -1,5 +1,5 @@
 -- What the program does.
-use Rattle.std.specs.Prelude.{◌≡◌, ℕ, List, [], Option, Some, None, Bool, true, false, slice_get, option_map}
+use Rattle.std.specs.Prelude.{◌≡◌, ℕ, List, [], Option, Some, None, Bool, true, false, slice_get, option_map, unwrap_or}
 use Rattle.std.specs.Io.KnownBytes.{Consumes, Appends}
 use Rattle.nesl_session_meaning.specs.declared.limits.Limits.{Limits}
 use Rattle.nesl_session_meaning.specs.State.{Log, empty_log}
@@ -13,20 +13,24 @@ use Rattle.nesl_line.specs.declared.exchange.End.{End}
 use Rattle.nesl_line.specs.declared.exchange.End.TheVariants.{Input, ReadFault, WriteFault}
 use Rattle.nesl_prompt.specs.Conversation.{IsPrompt}
 use Rattle.nesl_prompt.specs.Points.{is_plain}
-use Rattle.nesl_cli.specs.Words.{Task, a_batch, some_costs, a_service, a_prompt, a_look, Prompt, users_of, task_of}
-use Rattle.nesl_cli.specs.Offered.{service_offered, users_offered}
+use Rattle.nesl_words.specs.Words.{Task, a_batch, some_costs, a_service, a_prompt, a_look, some_keys}
+use Rattle.nesl_words.specs.Words.{LimitWords, Prompt}
+use Rattle.nesl_words.specs.Words.{users_of, task_of}
+use Rattle.nesl_cli.specs.Offered.{task_handed, users_handed}
 use Rattle.nesl_cli.specs.Prompted.{style_for}
 use Rattle.nesl_cli.specs.declared.prompt.Terminals.{Terminals}
-use Rattle.nesl_cli.specs.declared.run.Offer.{Offer}
+use Rattle.nesl_cli.specs.declared.run.Offered.{Offered}
 use Rattle.nesl_cli.specs.declared.failure.Failure.{Failure}
 use Rattle.nesl_cli.specs.declared.failure.Failure.TheVariants.{Read, Write, Memory, Serve}
 use Rattle.nesl_cli.specs.declared.failure.Failure.TheVariants.{Count, Name, Twice, Encoding}
 use Rattle.nesl_cli.specs.declared.failure.Failure.TheVariants.{Costs, Value, Taken, Stats, Folder, Kept}
+use Rattle.nesl_cli.specs.declared.failure.Failure.TheVariants.{Keys, NoKeys, KeysMemory, NoPage, KeptLimits}
+use Rattle.nesl_cli.specs.declared.failure.Failure.TheVariants.{Users, NoUsers, Open, Address}
 use Rattle.nesl_cli.specs.declared.failure.Failure.TheVariants as failed_as
 use Rattle.nesl_cli.specs.declared.prompt.PromptFault.TheVariants as prompt_fault
 use Rattle.nesl_cli.specs.Failures.{prompt_failure_of}
 
--- the limits of each session
+-- the limits of each session, unless a service has others
 abbrev pub limits : Limits
 limits = record {
   line_work = 1000000;
@@ -34,6 +38,16 @@ limits = record {
   elements = 100000;
   transcript_lines = 10000;
   transcript_bytes = 1048576;
+}
+
+-- the limits of each session of a service, where these are given by words
+abbrev pub limits_by : LimitWords → Limits
+limits_by words = record {
+  line_work = unwrap_or words.line_work limits.line_work;
+  session_work = unwrap_or words.session_work limits.session_work;
+  elements = unwrap_or words.elements limits.elements;
+  transcript_lines = unwrap_or words.transcript_lines limits.transcript_lines;
+  transcript_bytes = unwrap_or words.transcript_bytes limits.transcript_bytes;
 }
 
 -- a batch, with hints below its answers if `is_hinted`
@@ -83,6 +97,15 @@ BatchFails (Taken port) is_hinted users left left' held held' = ⊥
 BatchFails (Stats file fault) is_hinted users left left' held held' = ⊥
 BatchFails (Folder folder fault) is_hinted users left left' held held' = ⊥
 BatchFails (Kept failure) is_hinted users left left' held held' = ⊥
+BatchFails (Keys file fault) is_hinted users left left' held held' = ⊥
+BatchFails (NoKeys file fault) is_hinted users left left' held held' = ⊥
+BatchFails KeysMemory is_hinted users left left' held held' = ⊥
+BatchFails NoPage is_hinted users left left' held held' = ⊥
+BatchFails KeptLimits is_hinted users left left' held held' = ⊥
+BatchFails (Users file reason) is_hinted users left left' held held' = ⊥
+BatchFails NoUsers is_hinted users left left' held held' = ⊥
+BatchFails Open is_hinted users left left' held held' = ⊥
+BatchFails (Address text) is_hinted users left left' held held' = ⊥
 BatchFails (failed_as.Prompt fault) is_hinted users left left' held held' = ⊥
 BatchFails (Costs fault) is_hinted users left left' held held' = Unit {0}
 BatchFails (Value text) is_hinted users left left' held held' = Untouched left left' held held'
@@ -118,6 +141,7 @@ TaskFails terminals (a_prompt prompt) failure users left left' held held' =
     PromptFails (is_plain_at terminals prompt) failure left left' held held'
 TaskFails terminals (a_look keep) failure users left left' held held' = Consumes left left' []
 TaskFails terminals (a_service service) failure users left left' held held' = ⊥
+TaskFails terminals (some_keys keys) failure users left left' held held' = ⊥
 
 -- What a task achieved that is run here. A batch or a prompt was answered to the end of its input. Nothing is claimed
 -- of costs, and of a look at kept sessions no more than that nothing was read from the input.
@@ -129,13 +153,14 @@ TaskDone terminals (a_prompt prompt) users left left' held held' =
     Prompted (is_plain_at terminals prompt) Input left left' held held'
 TaskDone terminals (a_look keep) users left left' held held' = Consumes left left' []
 TaskDone terminals (a_service service) users left left' held held' = ⊥
+TaskDone terminals (some_keys keys) users left left' held held' = ⊥
 
--- What became of a command line that wasn't refused. Either its task is done; or it asks for a service, and nothing was
--- read or written yet.
+-- What became of a command line that wasn't refused. Either its task is done; or it asks for a service or
+-- for keys, and nothing was read or written yet.
 abbrev pub IsCarriedOut
-    : Terminals → Option Offer → (words : List (List ℕ)) → (left left' held held' : Option (List ℕ)) → Type 0
+    : Terminals → Option Offered → (words : List (List ℕ)) → (left left' held held' : Option (List ℕ)) → Type 0
 IsCarriedOut terminals None words left left' held held' =
     TaskDone terminals (task_of words) (users_of words) left left' held held'
-IsCarriedOut terminals (Some offer) words left left' held held' =
-    (users_offered offer ≡ users_of words) × (a_service (service_offered offer) ≡ task_of words)
+IsCarriedOut terminals (Some offered) words left left' held held' =
+    (users_handed offered ≡ users_of words) × (task_handed offered ≡ task_of words)
     × Untouched left left' held held'

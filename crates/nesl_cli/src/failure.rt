@@ -10,6 +10,7 @@ use crate::prompt::PromptFault;
 use clap::error::ErrorKind;
 use nesl_house::roster::NewFault;
 use nesl_kept::failure::LookFailure;
+use nesl_keys::keys::KeysFault;
 use nesl_line::exchange::End;
 use nesl_prompt::shelf::ShelfFault;
 use nesl_service::service::ServeFault;
@@ -53,6 +54,33 @@ pub enum Failure<'a> {
     /// Kept sessions could not be looked at.
     #[error("{0}")]
     Kept(LookFailure<'a>),
+    /// Keys can't be written into this file, for this reason.
+    #[error("keys: can't write {0}\n{1}")]
+    Keys(&'a str, KeysRefusal),
+    /// Keys can't be read from this file, for this reason.
+    #[error("serve: can't read keys in {0}\n{1}")]
+    NoKeys(&'a str, KeysRefusal),
+    /// Memory ran out before keys were made.
+    #[error("keys: no memory")]
+    KeysMemory,
+    /// A header is to name the users of a page, and there is no page.
+    #[error("serve: --user-header needs --web")]
+    NoPage,
+    /// The users can't be read from this file, for this reason.
+    #[error("serve: can't read users in {0}\n{1}")]
+    Users(&'a str, UsersRefusal),
+    /// A service is to be offered to nobody.
+    #[error("serve: no users: name them, or list them in the file of --users")]
+    NoUsers,
+    /// An address is to be listened at that others reach, and users have no keys.
+    #[error("serve: --bind needs --keys")]
+    Open,
+    /// This text is no IP address.
+    #[error("serve: bad address {0}")]
+    Address(&'a str),
+    /// Sessions are to be kept, and to have other limits than those with which they come back.
+    #[error("serve: sessions that --keep keeps have the usual limits")]
+    KeptLimits,
     /// A prompt ended before the end of input.
     #[error("{0}")]
     Prompt(PromptFault),
@@ -70,6 +98,36 @@ pub enum FolderRefusal {
     /// The system gave no number for its error.
     #[error("the system refuses it")]
     Refused,
+}
+
+/// Why users can't be read from a file.
+#[derive(Clone, Copy, PartialEq, Eq, Debug, Error)]
+pub enum UsersRefusal {
+    #[error("it isn't UTF-8")]
+    Encoding,
+    #[error("{0}")]
+    File(ShelfFault),
+}
+
+/// Why keys can't be written into a file.
+#[derive(Clone, Copy, PartialEq, Eq, Debug, Error)]
+pub enum KeysRefusal {
+    #[error("there is a file of this name")]
+    Taken,
+    /// It was read, and is no file of keys.
+    #[error("{0}")]
+    Content(KeysFault),
+    /// A user whose key is to be renewed isn't in it.
+    #[error("it doesn't list a user")]
+    Unlisted,
+    #[error("{0}")]
+    File(ShelfFault),
+    #[error("the system gives no random bytes")]
+    Random,
+    #[error("standard output: write fault")]
+    Output,
+    #[error("no memory")]
+    Memory,
 }
 
 /// Why a command line led to no complete run.
@@ -107,6 +165,7 @@ impl<'a> Failure<'a> {
             Some(word) if *word == "serve" => Failure::Serve(ServeFault::Memory),
             Some(word) if *word == "repl" => Failure::Prompt(PromptFault::Memory),
             Some(word) if *word == "keep" => Failure::Kept(LookFailure::Memory),
+            Some(word) if *word == "keys" => Failure::KeysMemory,
             _ => Failure::Memory,
         }
     }
@@ -131,8 +190,11 @@ impl<'a> Failure<'a> {
             Failure::Read | Failure::Write | Failure::Memory | Failure::Serve(_) => 1,
             Failure::Encoding | Failure::Count | Failure::Name(_) | Failure::Twice(_) => 2,
             Failure::Costs(_) | Failure::Taken(_) | Failure::Prompt(_) => 1,
-            Failure::Stats(_, _) | Failure::Folder(_, _) => 1,
-            Failure::Value(_) | Failure::Kept(LookFailure::Name(_)) => 2,
+            Failure::Stats(_, _) | Failure::Folder(_, _) | Failure::Keys(_, _) => 1,
+            Failure::NoKeys(_, _) | Failure::Users(_, _) | Failure::KeysMemory => 1,
+            Failure::Value(_) | Failure::NoPage | Failure::KeptLimits => 2,
+            Failure::NoUsers | Failure::Open | Failure::Address(_) => 2,
+            Failure::Kept(LookFailure::Name(_)) => 2,
             Failure::Kept(_) => 1,
         }
     }

@@ -1,11 +1,11 @@
 //! What `keep` does.
 
 use crate::failure::Failure;
-use crate::keep_words::{Keep, KeepWord};
 use crate::run::LIMITS;
 use nesl_kept::collection::Collection;
 use nesl_kept::folder::KeptFolders;
 use nesl_line::device::Sink;
+use nesl_words::keep_words::{Keep, KeepWord};
 use std::alloc::Global;
 
 /// Looks at the kept sessions of a folder: at those of the first of these users, or of all if there is none.

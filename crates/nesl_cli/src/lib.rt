@@ -4,10 +4,7 @@
 
 pub mod costs;
 pub mod failure;
-mod help;
-pub mod keep_words;
 mod kept;
 pub mod prompt;
 pub mod run;
 pub mod terms;
-pub mod words;

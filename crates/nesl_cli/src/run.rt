@@ -4,7 +4,7 @@ ghost use Rattle.clap.specs.Words.{HasKind};
 ghost use Rattle.clap.specs.declared.error.Error as clap;
 ghost use Rattle.nesl_house.specs.Roster.{IsRoster, new_house};
 ghost use Rattle.nesl_line.specs.declared.exchange.End.TheVariants as end;
-ghost use Rattle.nesl_cli.specs.Words.{faults_of, task_of, users_of};
+ghost use Rattle.nesl_words.specs.Words.{faults_of, task_of, users_of};
 ghost use Rattle.nesl_cli.specs.Program.{limits, Batched, IsCarriedOut, BatchFails, Served, TaskFails, Untouched};
 ghost use Rattle.nesl_cli.specs.declared.failure.Failure.{Failure};
 ghost use Rattle.nesl_cli.specs.declared.failure.Refusal.TheVariants as refusal;
@@ -13,7 +13,6 @@ use crate::costs::write_costs;
 use crate::failure::{Failure, Refusal};
 use crate::kept::run_keep;
 use crate::prompt::{PromptDevices, run_prompt};
-use crate::words::{self, Service, Task};
 use linked_list_allocator::LocalHeap;
 use nesl_house::house::House;
 use nesl_house::manner::{InHeap, Manner, Plainly};
@@ -25,6 +24,7 @@ use nesl_line::hinted::batch_with_hints;
 use nesl_prompt::hints::Hints;
 use nesl_prompt::shelf::Shelf;
 use nesl_session::limits::Limits;
+use nesl_words::words::{self, NewKeys, Service, Task};
 use std::alloc::{AllocError, Global};
 use std::mem::ManuallyDrop;
 
@@ -44,17 +44,31 @@ pub struct Offer<'a> {
     pub service: Service<'a>,
 }
 
+/// Keys that are to be made for these users.
+#[derive(Drop)]
+pub struct KeysOffer<'a> {
+    pub users: Vec<&'a str>,
+    pub keys: NewKeys<'a>,
+}
+
+/// What the caller has to do.
+#[derive(Drop)]
+pub enum Offered<'a> {
+    Service(Offer<'a>),
+    Keys(KeysOffer<'a>),
+}
+
 /// Does what the command line asks for. It runs a batch, its costs or a prompt, or looks at kept sessions. For a
-/// service it returns the offer, which the caller has to keep.
+/// service or for keys it returns what is offered, which the caller has to carry out.
 pub fn carry_out<'a, S: Source, W: Sink, F: Shelf + KeptFolders>(
     alloc: Global,
     words: &'a [&'a str],
     devices: &PromptDevices<'_, F>,
     reader: &mut S,
     writer: &mut W,
-) -> Result<Option<Offer<'a>>, Refusal<'a>>
-    ensures comes { IfOk result (λ offer.
-        IsCarriedOut devices.now.terminals offer (map (λ word. word.now) words.entry.now)
+) -> Result<Option<Offered<'a>>, Refusal<'a>>
+    ensures comes { IfOk result (λ offered.
+        IsCarriedOut devices.now.terminals offered (map (λ word. word.now) words.entry.now)
         (S.left reader.old) (S.left reader.new) (W.held writer.old) (W.held writer.new)) }
     ensures failed { (failure : Failure) → result ≡ Err (refusal.Run failure)
         → TaskFails devices.now.terminals (task_of (map (λ word. word.now) words.entry.now)) failure
@@ -96,7 +110,8 @@ pub fn carry_out<'a, S: Source, W: Sink, F: Shelf + KeptFolders>(
             Ok(()) => Ok(None),
             Err(failure) => Err(Refusal::Run(failure)),
         },
-        Task::Service(service) => Ok(Some(Offer { users, service })),
+        Task::Service(service) => Ok(Some(Offered::Service(Offer { users, service }))),
+        Task::Keys(keys) => Ok(Some(Offered::Keys(KeysOffer { users, keys }))),
     }
 }
 

@@ -3,7 +3,7 @@ use Rattle.nesl_line.specs.declared.exchange.End.TheVariants.{Input}
 use Rattle.nesl_prompt.specs.Points.{is_plain}
 use Rattle.nesl_prompt.specs.declared.style.Style.{Style}
 use Rattle.nesl_cli.specs.Program.{Prompted}
-use Rattle.nesl_cli.specs.Words.{task_of, users_of}
+use Rattle.nesl_words.specs.Words.{task_of, users_of}
 use Rattle.nesl_cli.proofs.Done.{prompt_done}
 use Rattle.nesl_cli.proofs.run.carry_out.Goals as goal
 

@@ -1,0 +1,3 @@
+pub mod Flags
+pub mod Numbers
+pub mod Tasks

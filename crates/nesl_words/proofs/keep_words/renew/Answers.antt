@@ -1,0 +1,14 @@
+use Rattle.std.proofs.Common.{◌∙◌, ap, codes}
+use Rattle.clap.specs.Simple.{new_shape, shape_of_fields}
+use Rattle.nesl_words.specs.Words.{folder_rule, user_rule}
+use Rattle.nesl_words.specs.Shapes.{IsShaped}
+use Rattle.nesl_words.proofs.keep_words.renew.Goals as goal
+
+pub returns : goal.returns
+returns c =
+    let is_named : IsShaped (new_shape (codes "renew")) c.after_help-named.result = (
+      ap shape_of_fields c.after_help-named.ensures ∙ ap shape_of_fields c.about.ensures ∙ ap (λ app. app.top) c.new.ensures.app,
+      ap (λ fields. fields.has_globals) c.after_help-named.ensures ∙ ap (λ fields. fields.has_globals) c.about.ensures ∙ c.new.ensures.local,
+    ) in
+    let has_folder = c.with_option-with_folder.ensures (new_shape (codes "renew")) folder_rule c.folder.ensures.rule is_named in
+    c.with_option.ensures _ user_rule c.user.ensures.rule has_folder

@@ -1,0 +1,4 @@
+pub mod Shapes
+pub mod Words
+pub mod Wanted
+pub mod Listed

@@ -1,0 +1,76 @@
+-- The task of the command line, as the code has it.
+use Rattle.std.specs.Prelude.{ℕ, List, Option, map, option_map}
+use Rattle.nesl_words.specs.declared.words.Task.{Task as Code}
+use Rattle.nesl_words.specs.declared.words.Task.TheVariants as code
+use Rattle.nesl_words.specs.declared.words.Service.{Service as ServiceCode}
+use Rattle.nesl_words.specs.declared.keep_words.KeepWord.{KeepWord as WordCode}
+use Rattle.nesl_words.specs.declared.keep_words.KeepWord.TheVariants as word_code
+use Rattle.nesl_words.specs.declared.words.NewKeys.{NewKeys as NewKeysCode}
+use Rattle.nesl_words.specs.declared.words.Wanted.{Wanted}
+use Rattle.nesl_words.specs.declared.words.LimitWords.{LimitWords as LimitWordsCode}
+use Rattle.nesl_words.specs.Words.{Task, a_batch, some_costs, a_service, a_prompt, a_look, some_keys}
+use Rattle.nesl_words.specs.Words.{LimitWords, NewKeys, Service}
+use Rattle.nesl_words.specs.Words.{KeepWord, checks, shows, renews, tabulates}
+
+-- the limits
+abbrev pub limits_wanted : LimitWordsCode → LimitWords
+limits_wanted limits = record {
+  line_work = limits.line_work;
+  session_work = limits.session_work;
+  elements = limits.elements;
+  transcript_lines = limits.transcript_lines;
+  transcript_bytes = limits.transcript_bytes;
+}
+
+-- the service
+abbrev pub service_wanted : ServiceCode → Service
+service_wanted service = record {
+  port = service.port;
+  workers = service.workers;
+  connections = service.connections;
+  web = service.web;
+  web_host = option_map (λ name. name.now) service.web_host;
+  idle = service.idle;
+  first_line = service.first_line;
+  is_logged = service.is_logged;
+  stats = option_map (λ file. file.now) service.stats;
+  keep = option_map (λ folder. folder.now) service.keep;
+  keys = option_map (λ file. file.now) service.keys;
+  user_header = option_map (λ name. name.now) service.user_header;
+  bind = option_map (λ address. address.now) service.bind;
+  limits = limits_wanted service.limits;
+  users = option_map (λ file. file.now) service.users;
+  is_check = service.is_check;
+}
+
+-- the keys
+abbrev pub keys_wanted : NewKeysCode → NewKeys
+keys_wanted keys = record {
+  file = option_map (λ file. file.now) keys.file;
+  is_renewed = keys.is_renewed;
+  page = option_map (λ page. page.now) keys.page;
+}
+
+-- what is done with kept sessions
+abbrev pub word_wanted : WordCode → KeepWord
+word_wanted word_code.Check = checks
+word_wanted word_code.Show = shows
+word_wanted word_code.Renew = renews
+word_wanted word_code.Csv = tabulates
+
+abbrev pub option_word : Option WordCode → Option KeepWord
+option_word word = option_map word_wanted word
+
+-- what is to be done
+abbrev pub task_wanted : Code → Task
+task_wanted (code.Batch heap is_hinted) = a_batch (record { heap = heap; is_hinted = is_hinted })
+task_wanted (code.Costs values heap) = some_costs (record { values = values.now; heap = heap })
+task_wanted (code.Service service) = a_service (service_wanted service)
+task_wanted (code.Keys keys) = some_keys (keys_wanted keys)
+task_wanted (code.Prompt is_hinted has_files) = a_prompt (record { is_hinted = is_hinted; has_files = has_files })
+task_wanted (code.Keep keep) =
+    a_look (record { word = word_wanted keep.word; folder = option_map (λ folder. folder.now) keep.folder })
+
+-- the users, in order
+abbrev pub users_wanted : Wanted → List (List ℕ)
+users_wanted wanted = map (λ user. user.now) wanted.users.items

@@ -1,0 +1,7 @@
+//! The words of the command line, as clap reads them, and the texts of help.
+#![tactic(auto)]
+
+mod help;
+pub mod keep_words;
+pub mod listed;
+pub mod words;

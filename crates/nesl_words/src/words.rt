@@ -1,0 +1,753 @@
+//! The words of the command line.
+
+ghost use Rattle.std.specs.Prelude.{◌≡◌, IfNone, IfOk, IfSome, codes, drop, false, map, option_map, true};
+ghost use Rattle.clap.specs.Walk.{rule_of, rows_of, Rule};
+ghost use Rattle.clap.specs.Matches.{found_of};
+ghost use Rattle.clap.specs.Simple.{App, Shape, subcommand_of, with_subcommand};
+ghost use Rattle.clap.specs.Words.{app_of, fault_of, FailsBy, is_simple, is_simple_and_free, subcommand_rows_of};
+ghost use Rattle.nesl_words.specs.Shapes.{IsShaped, with_rule};
+ghost use Rattle.nesl_words.specs.Words.{bind_rule, check_rule, further_users_rule, users_file_rule};
+ghost use Rattle.nesl_words.specs.Words.{batch, batch_among, connections_rule, csv_rule, faults_of, files_rule};
+ghost use Rattle.nesl_words.specs.Words.{first_line_rule, heap_rule, hints_rule, idle_rule, is_among, is_keep};
+ghost use Rattle.nesl_words.specs.Words.{keep_rule, keys, keys_among, keys_file_rule, log_rule, number_among};
+ghost use Rattle.nesl_words.specs.Words.{number_rule, out_rule, page_rule, port_rule, program, renew_rule, repl};
+ghost use Rattle.nesl_words.specs.Words.{serve, service_among, stats_rule, task_among, task_in, task_of};
+ghost use Rattle.nesl_words.specs.Words.{text_among, text_rule, user_header_rule, users_among, users_in, users_of};
+ghost use Rattle.nesl_words.specs.Words.{elements_rule, limits_among, line_work_rule, session_work_rule};
+ghost use Rattle.nesl_words.specs.Words.{transcript_bytes_rule, transcript_lines_rule};
+ghost use Rattle.nesl_words.specs.Words.{users_rule, web_host_rule, web_rule};
+ghost use Rattle.nesl_words.specs.Words.{without_subcommands, workers_rule};
+ghost use Rattle.nesl_words.specs.Wanted.{keys_wanted, limits_wanted, service_wanted, task_wanted, users_wanted};
+
+use crate::help;
+use crate::keep_words::{Keep, keep_command, keep_listed, word_named};
+use clap::builder::ValueParser;
+use clap::{Arg, ArgAction, ArgMatches, Command, Error};
+use std::alloc::{AllocError, Global};
+
+/// The program's version, which `--version` prints. scripts/package gives the package the same one.
+pub const VERSION: &str = "1.0.0";
+
+/// The most seconds for a line to arrive, or for an answer to be taken.
+const MOST_SECONDS: u64 = 86_400;
+
+/// The greatest port.
+const MOST_PORT: u64 = 65_535;
+
+/// The most helpers of a service.
+const MOST_WORKERS: u64 = 64;
+
+/// The most connections after which a service ends.
+const MOST_CONNECTIONS: u64 = 1_000_000;
+
+/// The least work of a session by words, which is what it always has. So the page needs no other bar for what is left.
+const LEAST_SESSION_WORK: u64 = 100_000_000;
+
+/// The greatest limits of a session by words. With that of work a line takes minutes.
+const MOST_LINE_WORK: u64 = 1_000_000_000;
+
+const MOST_SESSION_WORK: u64 = 1_000_000_000_000_000;
+
+const MOST_ELEMENTS: u64 = 1_000_000_000;
+
+const MOST_LINES: u64 = 1_000_000;
+
+const MOST_LINE_BYTES: u64 = 1_073_741_824;
+
+/// The fewest bytes of a heap.
+const LEAST_HEAP: u64 = 16;
+
+/// The most bytes of a heap.
+const MOST_HEAP: u64 = 1_073_741_824;
+
+/// What the command line asks for.
+#[derive(Clone, Copy)]
+pub enum Task<'a> {
+    /// A batch. `heap` is the size in bytes of its heap for evaluation, if there is to be one.
+    Batch {
+        heap: Option<usize>,
+        /// Whether hints are written below faults.
+        is_hinted: bool,
+    },
+    /// The costs of a batch as CSV, for each of these values of `n`, separated by commas. `heap` is as above.
+    Costs {
+        values: &'a str,
+        heap: Option<usize>,
+    },
+    Service(Service<'a>),
+    Keys(NewKeys<'a>),
+    /// A prompt.
+    Prompt {
+        /// Whether hints are written even if standard output is no terminal.
+        is_hinted: bool,
+        /// Whether files may be opened even if standard input is no terminal.
+        has_files: bool,
+    },
+    /// A look at kept sessions, of the one user that is named or of all.
+    Keep(Keep<'a>),
+}
+
+/// The options of `serve`. `workers` is the number of helpers, and `connections` the number of connections after which
+/// the service ends. `web` is the port of the page, and `web_host` a further name by which it may be requested.
+///
+/// The times are in seconds. A line has `idle` seconds to arrive whole, and so has each piece of an answer to be taken.
+/// The first line of a connection has `first_line` seconds. A connection that takes longer is ended. With `is_logged`
+/// each connection is logged, and `stats` is the file for the counters. `keep` is the folder where sessions are kept.
+/// `keys` is the file of the users' keys, and `user_header` the name of the header that names the user of a browser.
+/// `bind` is the address where it listens, if that isn't this machine's own alone, and `limits` are those of each
+/// session. `users` is a file that lists further users. With `is_check` the service ends before it listens.
+#[derive(Clone, Copy)]
+pub struct Service<'a> {
+    pub port: Option<usize>,
+    pub workers: Option<usize>,
+    pub connections: Option<usize>,
+    pub web: Option<usize>,
+    pub web_host: Option<&'a str>,
+    pub idle: Option<usize>,
+    pub first_line: Option<usize>,
+    pub is_logged: bool,
+    pub stats: Option<&'a str>,
+    pub keep: Option<&'a str>,
+    pub keys: Option<&'a str>,
+    pub user_header: Option<&'a str>,
+    pub bind: Option<&'a str>,
+    pub limits: LimitWords,
+    pub users: Option<&'a str>,
+    pub is_check: bool,
+}
+
+/// The limits of each session by words, in units of work, elements, lines and bytes. Those that aren't given are as
+/// they always are.
+#[derive(Clone, Copy)]
+pub struct LimitWords {
+    pub line_work: Option<usize>,
+    pub session_work: Option<usize>,
+    pub elements: Option<usize>,
+    pub transcript_lines: Option<usize>,
+    pub transcript_bytes: Option<usize>,
+}
+
+/// The options of `keys`. `file` lists the users, and with `is_renewed` it is there already. `page` is the address of
+/// the page.
+#[derive(Clone, Copy)]
+pub struct NewKeys<'a> {
+    pub file: Option<&'a str>,
+    pub is_renewed: bool,
+    pub page: Option<&'a str>,
+}
+
+/// What the command line asks for, and for which users, in order.
+#[derive(Drop)]
+pub struct Wanted<'a> {
+    pub users: Vec<&'a str>,
+    pub task: Task<'a>,
+}
+
+/// Reads the words of the command line, the program's name first. Fails if they are refused, or if they ask for help or
+/// for the version.
+pub fn read<'a>(alloc: Global, words: &'a [&'a str]) -> Result<Wanted<'a>, Error>
+    ensures users { IfOk result (λ wanted. users_wanted wanted ≡ users_of (map (λ word. word.now) words.entry.now)) }
+    ensures task { IfOk result (λ wanted. task_wanted wanted.task ≡ task_of (map (λ word. word.now) words.entry.now)) }
+    ensures faults { FailsBy (faults_of (map (λ word. word.now) words.entry.now)) result }
+{
+    match from_keep(words) {
+        Some(words) => read_by(alloc, keep_command(alloc), words),
+        None => read_by(alloc, command(alloc), words),
+    }
+}
+
+// Returns the words from `keep` on, if that is the word after the program's name. It has commands of its own.
+fn from_keep<'a>(words: &'a [&'a str]) -> Option<&'a [&'a str]>
+    ensures some { IfSome result (λ rest. (is_keep (map (λ word. word.now) words.entry.now) ≡ true)
+        × (map (λ word. word.now) rest.now ≡ drop 1 (map (λ word. word.now) words.entry.now))) }
+    ensures none { IfNone result (is_keep (map (λ word. word.now) words.entry.now) ≡ false) }
+{
+    match words.get(1) {
+        Some(word) if *word == "keep" => Some(&words[1..]),
+        _ => None,
+    }
+}
+
+// Reads words by a command, if memory suffices for that.
+fn read_by<'a>(
+    alloc: Global,
+    command: Result<Command<'a>, AllocError>,
+    words: &'a [&'a str],
+) -> Result<Wanted<'a>, Error>
+    ensures users { (app : App) → is_simple app ≡ true → IfOk command.entry (λ command. app_of command ≡ app)
+        → IfOk result (λ wanted. users_wanted wanted
+        ≡ users_in (subcommand_of app (map (λ word. word.now) words.entry.now))) }
+    ensures task { (app : App) → is_simple app ≡ true → IfOk command.entry (λ command. app_of command ≡ app)
+        → IfOk result (λ wanted. task_wanted wanted.task
+        ≡ task_in (subcommand_of app (map (λ word. word.now) words.entry.now))) }
+    ensures faults { (app : App) → is_simple_and_free app ≡ true → IfOk command.entry (λ command. app_of command ≡ app)
+        → FailsBy (fault_of app (map (λ word. word.now) words.entry.now)) result }
+{
+    let matches = command?.try_get_matches_from(words)?;
+    Ok(wanted_in(alloc, &matches)?)
+}
+
+/// An example of the subcommand's words, which is printed after an error. The first word is the program's name.
+pub fn example(words: &[&str]) -> &'static str {
+    match words.get(1) {
+        Some(word) if *word == "serve" => help::SERVE_EXAMPLE,
+        Some(word) if *word == "repl" => help::REPL_EXAMPLE,
+        Some(word) if *word == "keys" => help::KEYS_EXAMPLE,
+        Some(word) if *word == "keep" => help::KEPT_EXAMPLE,
+        _ => help::BATCH_EXAMPLE,
+    }
+}
+
+// Describes the command line to clap.
+fn command<'a>(alloc: Global) -> Result<Command<'a>, AllocError>
+    ensures { IfOk result (λ command. app_of command ≡ program) }
+{
+    let with_batch = with_subcommand(Ok(without_subcommands(alloc)), batch(alloc));
+    let with_serve = with_subcommand(with_batch, serve(alloc));
+    let with_repl = with_subcommand(with_serve, repl(alloc));
+    let with_keys = with_subcommand(with_repl, keys(alloc));
+    with_subcommand(with_keys, keep_listed(alloc))
+}
+
+// The program without its subcommands.
+fn without_subcommands<'a>(alloc: Global) -> Command<'a>
+    ensures { app_of result ≡ without_subcommands }
+{
+    Command::new(alloc, "pazkindu")
+        .version(VERSION)
+        .about(help::ABOUT)
+        .after_help(help::PROGRAM_AFTER)
+        .subcommand_required(true)
+        .arg_required_else_help(true)
+}
+
+/// Adds a subcommand to a program, if memory suffices for both.
+pub(crate) fn with_subcommand<'a>(
+    program: Result<Command<'a>, AllocError>,
+    subcommand: Result<Command<'a>, AllocError>,
+) -> Result<Command<'a>, AllocError>
+    ensures { (app : App) (shape : Shape) → IfOk program.entry (λ command. app_of command ≡ app)
+        → IfOk subcommand.entry (IsShaped shape) → IfOk result (λ command. app_of command ≡ with_subcommand app shape) }
+{
+    program?.subcommand(subcommand?)
+}
+
+/// Adds an option to a command, if memory suffices for it.
+pub(crate) fn with_option<'a>(
+    command: Result<Command<'a>, AllocError>,
+    option: Arg<'a>,
+) -> Result<Command<'a>, AllocError>
+    requires { option.global ≡ false }
+    ensures { (shape : Shape) (rule : Rule) → rule_of option.entry ≡ rule → IfOk command.entry (IsShaped shape)
+        → IfOk result (IsShaped (with_rule shape rule)) }
+{
+    command?.arg(option)
+}
+
+fn batch<'a>(alloc: Global) -> Result<Command<'a>, AllocError>
+    ensures { IfOk result (IsShaped batch) }
+{
+    let named = Command::new(alloc, "batch")
+        .about(help::BATCH)
+        .after_help(help::BATCH_AFTER);
+    let with_heap = with_option(Ok(named), heap(alloc));
+    let with_csv = with_option(with_heap, csv(alloc));
+    let with_hints = with_option(with_csv, hints(alloc, help::HINTS));
+    with_option(with_hints, user(alloc))
+}
+
+fn repl<'a>(alloc: Global) -> Result<Command<'a>, AllocError>
+    ensures { IfOk result (IsShaped repl) }
+{
+    let named = Command::new(alloc, "repl")
+        .about(help::REPL)
+        .after_help(help::REPL_AFTER);
+    let with_hints = with_option(Ok(named), hints(alloc, help::REPL_HINTS));
+    with_option(with_hints, files(alloc))
+}
+
+fn serve<'a>(alloc: Global) -> Result<Command<'a>, AllocError>
+    ensures { IfOk result (IsShaped serve) }
+{
+    let named = Command::new(alloc, "serve")
+        .about(help::SERVE)
+        .after_help(help::SERVE_AFTER);
+    let with_port = with_option(Ok(named), port(alloc));
+    let with_workers = with_option(with_port, workers(alloc));
+    let with_connections = with_option(with_workers, connections(alloc));
+    let with_web = with_option(with_connections, web(alloc));
+    let with_web_host = with_option(with_web, web_host(alloc));
+    let with_idle = with_option(with_web_host, idle(alloc));
+    let with_first_line = with_option(with_idle, first_line(alloc));
+    let with_log = with_option(with_first_line, log(alloc));
+    let with_stats = with_option(with_log, stats(alloc));
+    let with_keep = with_option(with_stats, kept_folder(alloc));
+    let with_keys = with_option(with_keep, keys_file(alloc));
+    let with_header = with_option(with_keys, user_header(alloc));
+    let with_bind = with_option(with_header, bind(alloc));
+    let with_line_work = with_option(with_bind, line_work(alloc));
+    let with_session_work = with_option(with_line_work, session_work(alloc));
+    let with_elements = with_option(with_session_work, elements(alloc));
+    let with_lines = with_option(with_elements, transcript_lines(alloc));
+    let with_bytes = with_option(with_lines, transcript_bytes(alloc));
+    let with_users = with_option(with_bytes, users_file(alloc));
+    let with_check = with_option(with_users, check(alloc));
+    with_option(with_check, further_users(alloc))
+}
+
+fn keys<'a>(alloc: Global) -> Result<Command<'a>, AllocError>
+    ensures { IfOk result (IsShaped keys) }
+{
+    let named = Command::new(alloc, "keys")
+        .about(help::KEYS)
+        .after_help(help::KEYS_AFTER);
+    let with_out = with_option(Ok(named), out(alloc));
+    let with_renew = with_option(with_out, renew(alloc));
+    let with_page = with_option(with_renew, page(alloc));
+    with_option(with_page, user(alloc))
+}
+
+fn port<'a>(alloc: Global) -> Arg<'a>
+    ensures rule { rule_of result ≡ port_rule }
+    ensures local { result.global ≡ false }
+{
+    number(alloc, "PORT", "port", help::PORT, 0, MOST_PORT).required(true)
+}
+
+fn workers<'a>(alloc: Global) -> Arg<'a>
+    ensures rule { rule_of result ≡ workers_rule }
+    ensures local { result.global ≡ false }
+{
+    number(alloc, "WORKERS", "workers", help::WORKERS, 0, MOST_WORKERS).required(true)
+}
+
+fn connections<'a>(alloc: Global) -> Arg<'a>
+    ensures rule { rule_of result ≡ connections_rule }
+    ensures local { result.global ≡ false }
+{
+    number(
+        alloc,
+        "CONNECTIONS",
+        "connections",
+        help::CONNECTIONS,
+        1,
+        MOST_CONNECTIONS,
+    )
+}
+
+fn web<'a>(alloc: Global) -> Arg<'a>
+    ensures rule { rule_of result ≡ web_rule }
+    ensures local { result.global ≡ false }
+{
+    number(alloc, "WEB", "web", help::WEB, 0, MOST_PORT).value_name("PORT")
+}
+
+fn web_host<'a>(alloc: Global) -> Arg<'a>
+    ensures rule { rule_of result ≡ web_host_rule }
+    ensures local { result.global ≡ false }
+{
+    text(alloc, "HOST", "web-host", help::WEB_HOST).value_name("NAME")
+}
+
+fn idle<'a>(alloc: Global) -> Arg<'a>
+    ensures rule { rule_of result ≡ idle_rule }
+    ensures local { result.global ≡ false }
+{
+    number(alloc, "SECONDS", "idle", help::IDLE, 1, MOST_SECONDS)
+}
+
+fn first_line<'a>(alloc: Global) -> Arg<'a>
+    ensures rule { rule_of result ≡ first_line_rule }
+    ensures local { result.global ≡ false }
+{
+    number(
+        alloc,
+        "FIRST",
+        "first-line",
+        help::FIRST_LINE,
+        1,
+        MOST_SECONDS,
+    )
+    .value_name("SECONDS")
+}
+
+fn log<'a>(alloc: Global) -> Arg<'a>
+    ensures rule { rule_of result ≡ log_rule }
+    ensures local { result.global ≡ false }
+{
+    Arg::new(alloc, "LOG")
+        .long("log")
+        .help(help::LOG)
+        .action(ArgAction::SetTrue)
+}
+
+fn stats<'a>(alloc: Global) -> Arg<'a>
+    ensures rule { rule_of result ≡ stats_rule }
+    ensures local { result.global ≡ false }
+{
+    text(alloc, "FILE", "stats", help::STATS)
+}
+
+fn kept_folder<'a>(alloc: Global) -> Arg<'a>
+    ensures rule { rule_of result ≡ keep_rule }
+    ensures local { result.global ≡ false }
+{
+    text(alloc, "FOLDER", "keep", help::KEEP)
+}
+
+fn keys_file<'a>(alloc: Global) -> Arg<'a>
+    ensures rule { rule_of result ≡ keys_file_rule }
+    ensures local { result.global ≡ false }
+{
+    text(alloc, "KEYS", "keys", help::KEYS_FILE).value_name("FILE")
+}
+
+fn user_header<'a>(alloc: Global) -> Arg<'a>
+    ensures rule { rule_of result ≡ user_header_rule }
+    ensures local { result.global ≡ false }
+{
+    text(alloc, "HEADER", "user-header", help::USER_HEADER).value_name("NAME")
+}
+
+fn bind<'a>(alloc: Global) -> Arg<'a>
+    ensures rule { rule_of result ≡ bind_rule }
+    ensures local { result.global ≡ false }
+{
+    text(alloc, "BIND", "bind", help::BIND).value_name("ADDRESS")
+}
+
+fn users_file<'a>(alloc: Global) -> Arg<'a>
+    ensures rule { rule_of result ≡ users_file_rule }
+    ensures local { result.global ≡ false }
+{
+    text(alloc, "USERS", "users", help::USERS_FILE).value_name("FILE")
+}
+
+fn check<'a>(alloc: Global) -> Arg<'a>
+    ensures rule { rule_of result ≡ check_rule }
+    ensures local { result.global ≡ false }
+{
+    Arg::new(alloc, "CHECK")
+        .long("check")
+        .help(help::CHECK)
+        .action(ArgAction::SetTrue)
+}
+
+fn line_work<'a>(alloc: Global) -> Arg<'a>
+    ensures rule { rule_of result ≡ line_work_rule }
+    ensures local { result.global ≡ false }
+{
+    number(
+        alloc,
+        "LINE_WORK",
+        "line-work",
+        help::LINE_WORK,
+        1,
+        MOST_LINE_WORK,
+    )
+    .value_name("WORK")
+}
+
+fn session_work<'a>(alloc: Global) -> Arg<'a>
+    ensures rule { rule_of result ≡ session_work_rule }
+    ensures local { result.global ≡ false }
+{
+    number(
+        alloc,
+        "SESSION_WORK",
+        "session-work",
+        help::SESSION_WORK,
+        LEAST_SESSION_WORK,
+        MOST_SESSION_WORK,
+    )
+    .value_name("WORK")
+}
+
+fn elements<'a>(alloc: Global) -> Arg<'a>
+    ensures rule { rule_of result ≡ elements_rule }
+    ensures local { result.global ≡ false }
+{
+    number(
+        alloc,
+        "ELEMENTS",
+        "elements",
+        help::ELEMENTS,
+        1,
+        MOST_ELEMENTS,
+    )
+    .value_name("COUNT")
+}
+
+fn transcript_lines<'a>(alloc: Global) -> Arg<'a>
+    ensures rule { rule_of result ≡ transcript_lines_rule }
+    ensures local { result.global ≡ false }
+{
+    number(
+        alloc,
+        "LINES",
+        "transcript-lines",
+        help::TRANSCRIPT_LINES,
+        1,
+        MOST_LINES,
+    )
+    .value_name("COUNT")
+}
+
+fn transcript_bytes<'a>(alloc: Global) -> Arg<'a>
+    ensures rule { rule_of result ≡ transcript_bytes_rule }
+    ensures local { result.global ≡ false }
+{
+    number(
+        alloc,
+        "LINE_BYTES",
+        "transcript-bytes",
+        help::TRANSCRIPT_BYTES,
+        1,
+        MOST_LINE_BYTES,
+    )
+    .value_name("BYTES")
+}
+
+fn csv<'a>(alloc: Global) -> Arg<'a>
+    ensures rule { rule_of result ≡ csv_rule }
+    ensures local { result.global ≡ false }
+{
+    text(alloc, "VALUES", "csv", help::CSV)
+}
+
+fn heap<'a>(alloc: Global) -> Arg<'a>
+    ensures rule { rule_of result ≡ heap_rule }
+    ensures local { result.global ≡ false }
+{
+    number(alloc, "BYTES", "heap", help::HEAP, LEAST_HEAP, MOST_HEAP)
+}
+
+fn hints<'a>(alloc: Global, help: &'a str) -> Arg<'a>
+    ensures rule { rule_of result ≡ hints_rule }
+    ensures local { result.global ≡ false }
+{
+    Arg::new(alloc, "HINTS")
+        .long("hints")
+        .help(help)
+        .action(ArgAction::SetTrue)
+}
+
+fn files<'a>(alloc: Global) -> Arg<'a>
+    ensures rule { rule_of result ≡ files_rule }
+    ensures local { result.global ≡ false }
+{
+    Arg::new(alloc, "FILES")
+        .long("files")
+        .help(help::REPL_FILES)
+        .action(ArgAction::SetTrue)
+}
+
+fn out<'a>(alloc: Global) -> Arg<'a>
+    ensures rule { rule_of result ≡ out_rule }
+    ensures local { result.global ≡ false }
+{
+    text(alloc, "FILE", "out", help::OUT).required(true)
+}
+
+fn renew<'a>(alloc: Global) -> Arg<'a>
+    ensures rule { rule_of result ≡ renew_rule }
+    ensures local { result.global ≡ false }
+{
+    Arg::new(alloc, "RENEW")
+        .long("renew")
+        .help(help::RENEW)
+        .action(ArgAction::SetTrue)
+}
+
+fn page<'a>(alloc: Global) -> Arg<'a>
+    ensures rule { rule_of result ≡ page_rule }
+    ensures local { result.global ≡ false }
+{
+    text(alloc, "ADDRESS", "page", help::PAGE)
+}
+
+fn user<'a>(alloc: Global) -> Arg<'a>
+    ensures rule { rule_of result ≡ users_rule }
+    ensures local { result.global ≡ false }
+{
+    Arg::new(alloc, "USER")
+        .help(help::USERS)
+        .required(true)
+        .num_args(1..)
+        .action(ArgAction::Append)
+}
+
+// Users, beside those that a file lists.
+fn further_users<'a>(alloc: Global) -> Arg<'a>
+    ensures rule { rule_of result ≡ further_users_rule }
+    ensures local { result.global ≡ false }
+{
+    user(alloc).required(false)
+}
+
+// An option with a number from `least` to `most`, at most once.
+fn number<'a>(
+    alloc: Global,
+    name: &'a str,
+    long: &'a str,
+    help: &'a str,
+    least: u64,
+    most: u64,
+) -> Arg<'a>
+    ensures rule { rule_of result ≡ number_rule name.now long.now least most }
+    ensures local { result.global ≡ false }
+{
+    Arg::new(alloc, name)
+        .long(long)
+        .help(help)
+        .value_parser(ValueParser::unsigned(least, most))
+        .action(ArgAction::Set)
+}
+
+// An option with a text, at most once.
+fn text<'a>(alloc: Global, name: &'a str, long: &'a str, help: &'a str) -> Arg<'a>
+    ensures rule { rule_of result ≡ text_rule name.now long.now }
+    ensures local { result.global ≡ false }
+{
+    Arg::new(alloc, name)
+        .long(long)
+        .help(help)
+        .action(ArgAction::Set)
+}
+
+// Returns what was found on the command line.
+fn wanted_in<'a>(alloc: Global, matches: &ArgMatches<'a>) -> Result<Wanted<'a>, AllocError>
+    ensures users { IfOk result (λ wanted. users_wanted wanted ≡ users_in (subcommand_rows_of matches.now)) }
+    ensures task { IfOk result (λ wanted. task_wanted wanted.task ≡ task_in (subcommand_rows_of matches.now)) }
+{
+    match matches.subcommand() {
+        Some((name, inner)) => {
+            let users = user_names(alloc, inner)?;
+            let task = task_found(name, inner);
+            Ok(Wanted { users, task })
+        }
+        None => Ok(Wanted {
+            users: Vec::new(alloc),
+            task: Task::Batch {
+                heap: None,
+                is_hinted: false,
+            },
+        }),
+    }
+}
+
+fn task_found<'a>(name: &str, matches: &ArgMatches<'a>) -> Task<'a>
+    ensures { task_wanted result ≡ task_among name.now (rows_of (found_of matches.now)) }
+{
+    if name == "serve" {
+        return Task::Service(service_found(matches));
+    }
+    if name == "repl" {
+        return Task::Prompt {
+            is_hinted: has_flag(matches, "HINTS"),
+            has_files: has_flag(matches, "FILES"),
+        };
+    }
+    if name == "keys" {
+        return Task::Keys(keys_found(matches));
+    }
+    match word_named(name) {
+        Some(word) => Task::Keep(Keep {
+            word,
+            folder: text_option(matches, "FOLDER"),
+        }),
+        None => batch_found(matches),
+    }
+}
+
+fn batch_found<'a>(matches: &ArgMatches<'a>) -> Task<'a>
+    ensures { task_wanted result ≡ batch_among (text_among (codes "VALUES") (rows_of (found_of matches.now)))
+        (number_among (codes "BYTES") (rows_of (found_of matches.now)))
+        (is_among (codes "HINTS") (rows_of (found_of matches.now))) }
+{
+    let heap = number_option(matches, "BYTES");
+    let is_hinted = has_flag(matches, "HINTS");
+    match text_option(matches, "VALUES") {
+        Some(values) => Task::Costs { values, heap },
+        None => Task::Batch { heap, is_hinted },
+    }
+}
+
+fn service_found<'a>(matches: &ArgMatches<'a>) -> Service<'a>
+    ensures { service_wanted result ≡ service_among (rows_of (found_of matches.now)) }
+{
+    Service {
+        port: number_option(matches, "PORT"),
+        workers: number_option(matches, "WORKERS"),
+        connections: number_option(matches, "CONNECTIONS"),
+        web: number_option(matches, "WEB"),
+        web_host: text_option(matches, "HOST"),
+        idle: number_option(matches, "SECONDS"),
+        first_line: number_option(matches, "FIRST"),
+        is_logged: has_flag(matches, "LOG"),
+        stats: text_option(matches, "FILE"),
+        keep: text_option(matches, "FOLDER"),
+        keys: text_option(matches, "KEYS"),
+        user_header: text_option(matches, "HEADER"),
+        bind: text_option(matches, "BIND"),
+        limits: limits_found(matches),
+        users: text_option(matches, "USERS"),
+        is_check: has_flag(matches, "CHECK"),
+    }
+}
+
+fn limits_found(matches: &ArgMatches<'_>) -> LimitWords
+    ensures { limits_wanted result ≡ limits_among (rows_of (found_of matches.now)) }
+{
+    LimitWords {
+        line_work: number_option(matches, "LINE_WORK"),
+        session_work: number_option(matches, "SESSION_WORK"),
+        elements: number_option(matches, "ELEMENTS"),
+        transcript_lines: number_option(matches, "LINES"),
+        transcript_bytes: number_option(matches, "LINE_BYTES"),
+    }
+}
+
+fn keys_found<'a>(matches: &ArgMatches<'a>) -> NewKeys<'a>
+    ensures { keys_wanted result ≡ keys_among (rows_of (found_of matches.now)) }
+{
+    NewKeys {
+        file: text_option(matches, "FILE"),
+        is_renewed: has_flag(matches, "RENEW"),
+        page: text_option(matches, "ADDRESS"),
+    }
+}
+
+fn number_option(matches: &ArgMatches<'_>, name: &str) -> Option<usize>
+    ensures { result ≡ number_among name.now (rows_of (found_of matches.now)) }
+{
+    matches.get_one(name)
+}
+
+pub(crate) fn text_option<'a>(matches: &ArgMatches<'a>, name: &str) -> Option<&'a str>
+    ensures { option_map (λ text. text.now) result ≡ text_among name.now (rows_of (found_of matches.now)) }
+{
+    matches.get_str(name)
+}
+
+fn has_flag(matches: &ArgMatches<'_>, name: &str) -> bool
+    ensures { result ≡ is_among name.now (rows_of (found_of matches.now)) }
+{
+    match matches.get_strs(name) {
+        Some(texts) => match texts.first() {
+            Some(text) => *text == "true",
+            None => false,
+        },
+        None => false,
+    }
+}
+
+fn user_names<'a>(alloc: Global, matches: &ArgMatches<'a>) -> Result<Vec<&'a str>, AllocError>
+    ensures { IfOk result (λ users. map (λ user. user.now) users.items
+        ≡ users_among (rows_of (found_of matches.now))) }
+{
+    match matches.get_strs("USER") {
+        Some(names) => Vec::from_slice(alloc, names),
+        None => Ok(Vec::new(alloc)),
+    }
+}
