@@ -1,4 +1,4 @@
-//! Reports on a service: its ports on standard output, its connections on standard error, and its counters in a file.
+//! Reports on a service: its addresses on standard output, its connections on standard error, its counters in a file.
 
 use crate::log::Log;
 use crate::stats::{Replace, Stats};
@@ -10,22 +10,24 @@ use nesl_service_records::keeping::{KeepFailure, KeepReason, name_shown};
 use nesl_service_records::kept::KeptLine;
 use std::io;
 use std::io::{Eprint, Print};
+use std::net::SocketAddr;
 use std::sync::{Arc, Wait};
 use std::time::Clock;
 
-/// The ports on which the service listens.
+/// Where the service listens.
 #[derive(Clone, Copy, PartialEq, Eq, Debug)]
-pub struct Ports {
-    pub service: u16,
-    /// The port of the page, if there is one.
-    pub page: Option<u16>,
+pub struct Addresses {
+    /// For lines, if it does.
+    pub service: Option<SocketAddr>,
+    /// For browsers, if there is a page.
+    pub page: Option<SocketAddr>,
 }
 
-/// The journal of the program. It prints the ports, logs connections if there is a log, and counts for the file of
-/// counters. `folder` is the one where sessions are kept, if they are.
+/// The journal of the program. It prints where it listens, logs connections if there is a log, and counts for the file
+/// of counters. `folder` is the one where sessions are kept, if they are.
 pub struct Host<'x, R> {
     pub rt: &'x R,
-    pub ports: Ports,
+    pub addresses: Addresses,
     pub folder: Option<&'x str>,
     pub log: Option<Log<'x, R>>,
     pub stats: Option<Stats<'x, R>>,
@@ -37,7 +39,7 @@ impl<R: Wait + Clock + Replace> Host<'_, R> {
     pub fn close(self) {
         let Host {
             rt: _,
-            ports: _,
+            addresses: _,
             folder: _,
             log,
             stats,
@@ -54,10 +56,12 @@ impl<R: Wait + Clock + Replace> Host<'_, R> {
 
 impl<R: Print> Host<'_, R> {
     // Prints the address of the service, and that of the page.
-    fn print_ports(&self) -> io::Result<()> {
-        println!(self.rt; "listening on 127.0.0.1:{}", self.ports.service)?;
-        match self.ports.page {
-            Some(port) => println!(self.rt; "page at http://127.0.0.1:{port}/"),
+    fn print_addresses(&self) -> io::Result<()> {
+        if let Some(address) = self.addresses.service {
+            println!(self.rt; "listening on {address}")?;
+        }
+        match self.addresses.page {
+            Some(address) => println!(self.rt; "page at http://{address}/"),
             None => Ok(()),
         }
     }
@@ -96,7 +100,7 @@ impl<R: Eprint> Host<'_, R> {
 impl<R: Print + Eprint + Wait + Clock> Journal for Host<'_, R> {
     fn opened(&self) -> bool {
         self.note_folder();
-        self.print_ports().is_ok()
+        self.print_addresses().is_ok()
     }
 
     fn begun(&self, caller: Caller) {

@@ -9,6 +9,7 @@ ghost use Rattle.nesl_cli.specs.Failures.{status_after, status_of, words_status_
 mod disk;
 mod host;
 mod kept;
+mod keys;
 mod log;
 mod offer;
 mod replace;
@@ -16,6 +17,7 @@ mod stamp;
 mod standard;
 mod stats;
 mod strangers;
+mod users;
 
 use crate::disk::Disk;
 use crate::standard::fill_standard;
@@ -23,19 +25,21 @@ use crate::stats::Replace;
 use clap::error::ErrorKind;
 use nesl_cli::failure::{Failure, Refusal, status_after, words_status};
 use nesl_cli::prompt::{PromptDevices, Terminals};
-use nesl_cli::run;
-use nesl_cli::words::example;
+use nesl_cli::run::{self, Offer, Offered};
 use nesl_keep_file::Storage;
 use nesl_kept::folder::KeptFolders;
 use nesl_line::device::{Device, Sink, Source};
 use nesl_prompt::shelf::Shelf;
 use nesl_service::crowd::STACK_BYTES;
 use nesl_service::service::ANSWER_BYTES;
+use nesl_words::words::example;
 use std::alloc::{AllocError, Global};
+use std::fs::File;
 use std::io::{self, BufWriter, Eprint, IsTerminal, Print};
 use std::net::{Net, TcpListener, TcpStream};
 use std::process::ExitCode;
-use std::rt::Env;
+use std::random::RandomSource;
+use std::rt::{Env, Files};
 use std::sync::Wait;
 use std::thread::{Builder, Threads};
 use std::time::Clock;
@@ -128,7 +132,9 @@ fn run_program<
         + Clock
         + Print
         + Eprint
+        + Files<File = File>
         + Storage
+        + RandomSource
         + Replace
         + Clone
         + Drop
@@ -148,9 +154,39 @@ fn run_program<
 ) -> ExitCode {
     match run::carry_out(alloc, words, devices, reader, writer) {
         Ok(None) => ExitCode::SUCCESS,
-        Ok(Some(offer)) => finish_offer(rt, offer::keep(rt, alloc, &offer)),
+        Ok(Some(Offered::Service(offer))) => run_service(rt, alloc, &offer, devices.files),
+        Ok(Some(Offered::Keys(offer))) => {
+            finish_offer(rt, keys::make(rt, alloc, &offer, devices.files))
+        }
         Err(Refusal::Words(error)) => report_refusal(rt, words, &error),
         Err(Refusal::Run(failure)) => report_failure(rt, failure),
+    }
+}
+
+// Runs the offered service for the users who are named and those of its file, and returns the exit status.
+fn run_service<
+    R: Net<Stream = TcpStream, Listener = TcpListener>
+        + Threads
+        + Wait
+        + Clock
+        + Print
+        + Eprint
+        + Storage
+        + Replace
+        + Clone
+        + Drop
+        + Send
+        + Sync
+        + 'static,
+    F: Shelf,
+>(rt: &R, alloc: Global, offer: &Offer<'_>, shelf: &F) -> ExitCode {
+    let text = match users::read(alloc, offer, shelf) {
+        Ok(text) => text,
+        Err(failure) => return report_failure(rt, failure),
+    };
+    match users::add(alloc, offer, text.as_str()) {
+        Ok(offer) => finish_offer(rt, offer::keep(rt, alloc, &offer, shelf)),
+        Err(failure) => report_failure(rt, failure),
     }
 }
 

@@ -1,26 +1,28 @@
 //! Offers a service on a port, and its page on another.
 ghost use Rattle.std.specs.Prelude.{◌≡◌, Err, IfErr, IfOk, OnOk, map};
 ghost use Rattle.nesl_house.specs.Roster.{IsRoster};
-ghost use Rattle.nesl_cli.specs.Program.{limits};
 ghost use Rattle.nesl_cli.specs.declared.failure.Failure.TheVariants.{Serve};
 
-use crate::host::{Host, Ports};
+use crate::host::{Addresses, Host};
 use crate::log::Log;
 use crate::stats::{Replace, Stats};
-use nesl_cli::failure::{Failure, FolderRefusal};
+use nesl_cli::failure::{Failure, FolderRefusal, KeysRefusal};
 use nesl_cli::run::{LIMITS, Offer, copy_names};
-use nesl_cli::terms::local_address;
 use nesl_eval_helpers::Free;
 use nesl_house::roster::NewFault;
 use nesl_house::table::{Closed, Table};
 use nesl_keep_file::{Files as UserFiles, FolderFault, Storage};
 use nesl_keeper::keeper::KeptFiles;
+use nesl_keys::keys::{Keys, KeysFault};
+use nesl_keys::sign_in::SignIn;
 use nesl_line::keeper::Archive;
-use nesl_prompt::shelf::ShelfFault;
+use nesl_prompt::shelf::{Shelf, ShelfFault};
 use nesl_service::browse::Page;
-use nesl_service::service::{Observers, ServeFault, Site, serve_at};
+use nesl_service::seat::Entrance;
+use nesl_service::service::{Observers, ServeFault, Site, Ways, serve_by};
 use nesl_service_records::counters::Counters;
 use nesl_service_records::system::SystemError;
+use nesl_session::limits::Limits;
 use std::alloc::{AllocError, Global};
 use std::io;
 use std::io::{Eprint, Print};
@@ -29,8 +31,9 @@ use std::sync::{Arc, Wait};
 use std::thread::Threads;
 use std::time::Clock;
 
-/// Runs the offered service to its end. Prints the ports once it can serve, and how much was served if it ends. If the
-/// sessions are to be kept in a folder, that is locked before a port is listened to.
+/// Runs the offered service to its end. Prints where it listens once it can serve, and how much was served if it ends.
+/// If the sessions are to be kept in a folder, that is locked before a port is listened to. The keys of users are read
+/// from a file first, if they have any. A check ends before a port is listened to.
 pub fn keep<
     'a,
     R: Net<Stream = TcpStream, Listener = TcpListener>
@@ -46,14 +49,62 @@ pub fn keep<
         + Send
         + Sync
         + 'static,
->(rt: &R, alloc: Global, offer: &Offer<'a>) -> Result<(), Failure<'a>> {
-    let table = make_table(alloc, offer.users.as_slice())?;
+    F: Shelf,
+>(rt: &R, alloc: Global, offer: &Offer<'a>, shelf: &F) -> Result<(), Failure<'a>> {
+    require_fit(offer)?;
+    let seats = Seats {
+        table: make_table(alloc, offer.users.as_slice(), offer.limits())?,
+        keys: read_keys(alloc, offer, shelf)?,
+    };
     match offer.service.keep {
         Some(folder) => match UserFiles::lock(rt, alloc, folder) {
-            Ok(files) => keep_with(rt, alloc, offer, table, &KeptFiles::new(&files)),
+            Ok(files) => keep_with(rt, alloc, offer, seats, &KeptFiles::new(&files)),
             Err(fault) => Err(folder_failure(folder, fault)),
         },
-        None => keep_with(rt, alloc, offer, table, &()),
+        None => keep_with(rt, alloc, offer, seats, &()),
+    }
+}
+
+/// The sessions of the users, and their keys, if they have any.
+#[derive(Drop)]
+struct Seats {
+    table: Table,
+    keys: Option<Keys>,
+}
+
+// Fails if the words of a service don't fit together: a header is to name the users of a page that isn't offered, users
+// without keys are to be let in from elsewhere, or sessions are to be kept and to have limits of their own. A kept
+// session comes back with the usual limits, so with others its lines could be answered otherwise than before.
+fn require_fit<'a>(offer: &Offer<'a>) -> Result<(), Failure<'a>> {
+    let service = &offer.service;
+    if service.user_header.is_some() && service.web.is_none() {
+        Err(Failure::NoPage)
+    } else if service.bind.is_some() && service.keys.is_none() {
+        Err(Failure::Open)
+    } else if service.keep.is_some() && offer.limits() != LIMITS {
+        Err(Failure::KeptLimits)
+    } else {
+        Ok(())
+    }
+}
+
+// Reads the file of keys, if users have keys.
+fn read_keys<'a, F: Shelf>(
+    alloc: Global,
+    offer: &Offer<'a>,
+    shelf: &F,
+) -> Result<Option<Keys>, Failure<'a>> {
+    let Some(path) = offer.service.keys else {
+        return Ok(None);
+    };
+    let bytes = match shelf.read(alloc, path) {
+        Ok(bytes) => bytes,
+        Err(fault) => return Err(Failure::NoKeys(path, KeysRefusal::File(fault))),
+    };
+    match Keys::read(alloc, bytes.as_slice()) {
+        Ok(keys) => Ok(Some(keys)),
+        Err(KeysFault::Memory) => Err(Failure::Serve(ServeFault::Memory)),
+        Err(fault) => Err(Failure::NoKeys(path, KeysRefusal::Content(fault))),
     }
 }
 
@@ -73,12 +124,17 @@ fn keep_with<
         + Sync
         + 'static,
     A: Archive + Sync,
->(rt: &R, alloc: Global, offer: &Offer<'a>, table: Table, archive: &A) -> Result<(), Failure<'a>> {
+>(rt: &R, alloc: Global, offer: &Offer<'a>, seats: Seats, archive: &A) -> Result<(), Failure<'a>> {
+    if offer.service.is_check {
+        return Ok(());
+    }
+    let Seats { table, keys } = seats;
     let doors = Doors {
-        service: listen(rt, offer.address())?,
+        service: listen_for_lines(rt, offer)?,
         page: listen_for_page(rt, offer)?,
+        keys,
     };
-    let host = make_host(rt, alloc, offer, doors.ports())?;
+    let host = make_host(rt, alloc, offer, doors.addresses())?;
     let served = serve_offer(alloc, &*offer, &doors, table, &host, archive);
     host.close();
     finish(rt, offer, served)
@@ -96,30 +152,56 @@ fn folder_failure<'a>(folder: &'a str, fault: FolderFault) -> Failure<'a> {
     Failure::Folder(folder, refusal)
 }
 
-/// A listener, with its port.
+/// A listener, and where it listens.
 #[derive(Drop)]
 struct Listening {
     listener: TcpListener,
-    port: u16,
+    address: SocketAddr,
 }
 
-/// The listeners of a service.
+/// The listeners of a service, and the keys of its users, if they have any.
 #[derive(Drop)]
 struct Doors {
-    service: Listening,
+    /// The listener for lines, if there is one.
+    service: Option<Listening>,
     /// The listener for browsers, if there is a page.
     page: Option<Listening>,
+    keys: Option<Keys>,
 }
 
 impl Doors {
-    fn ports(&self) -> Ports {
-        Ports {
-            service: self.service.port,
-            page: match &self.page {
-                Some(page) => Some(page.port),
-                None => None,
+    fn addresses(&self) -> Addresses {
+        Addresses {
+            service: address_of(&self.service),
+            page: address_of(&self.page),
+        }
+    }
+
+    // How the users of this service are known.
+    fn entrance<'x>(&'x self, offer: &'x Offer<'_>) -> Entrance<'x> {
+        let by_key = match &self.keys {
+            Some(keys) => SignIn::Keys(keys),
+            None => SignIn::Word,
+        };
+        match &offer.service.user_header {
+            Some(header) => Entrance {
+                lines: by_key,
+                page: SignIn::Header,
+                header: header.as_bytes(),
+            },
+            None => Entrance {
+                lines: by_key,
+                page: by_key,
+                header: b"",
             },
         }
+    }
+}
+
+fn address_of(listening: &Option<Listening>) -> Option<SocketAddr> {
+    match listening {
+        Some(listening) => Some(listening.address),
+        None => None,
     }
 }
 
@@ -140,19 +222,19 @@ fn serve_offer<
         gate: &Free,
         journal: host,
     };
+    let Some(first) = doors.service.as_ref().or(doors.page.as_ref()) else {
+        return Err(ServeFault::Socket);
+    };
     let site = Site {
         rt: host.rt,
         alloc,
-        listener: &doors.service.listener,
+        listener: &first.listener,
     };
-    serve_at(
-        site,
-        make_page(offer, &doors.page),
-        table,
-        offer.terms(),
-        observers,
-        archive,
-    )
+    let ways = Ways {
+        page: make_page(offer, &doors.page),
+        entrance: doors.entrance(offer),
+    };
+    serve_by(site, ways, table, offer.terms(), observers, archive)
 }
 
 // Prints how much a service served, if it ended well, and returns its result.
@@ -172,28 +254,29 @@ fn finish<'a, R: Print>(
     }
 }
 
-// Makes a table for these users.
-fn make_table<'a>(alloc: Global, users: &[&'a str]) -> Result<Table, Failure<'a>>
+// Makes a table for these users, whose sessions have these limits.
+fn make_table<'a>(alloc: Global, users: &[&'a str], limits: Limits) -> Result<Table, Failure<'a>>
     ensures roster { OnOk result (IsRoster (map (λ user. user.now) users.now)) }
     ensures made { IfOk result (λ t. t ≡ record { roster = map (λ user. user.now) users.now; limits = limits }) }
 {
     let Ok(names) = copy_names(alloc, users) else {
         return Err(Failure::Serve(ServeFault::Memory));
     };
-    match Table::new(alloc, names.as_slice(), LIMITS) {
+    match Table::new(alloc, names.as_slice(), limits) {
         Ok(table) => Ok(table),
         Err(NewFault::Memory) => Err(Failure::Serve(ServeFault::Memory)),
         Err(fault) => Err(Failure::of_roster(fault, users)),
     }
 }
 
-// Listens at an address. `None` means that there is no such address.
+// Listens at an address of an offered service. `None` means that the text of the address is none.
 fn listen<'a, R: Net<Stream = TcpStream, Listener = TcpListener>>(
     rt: &R,
+    offer: &Offer<'a>,
     address: Option<SocketAddr>,
 ) -> Result<Listening, Failure<'a>> {
     let Some(address) = address else {
-        return Err(Failure::Serve(ServeFault::Socket));
+        return Err(Failure::Address(offer.service.bind.unwrap_or("")));
     };
     match bind(rt, address) {
         Ok(listening) => Ok(listening),
@@ -210,8 +293,20 @@ fn bind<R: Net<Stream = TcpStream, Listener = TcpListener>>(
     address: SocketAddr,
 ) -> io::Result<Listening> {
     let listener = TcpListener::bind(rt, address)?;
-    let port = listener.local_addr()?.port();
-    Ok(Listening { listener, port })
+    let address = listener.local_addr()?;
+    Ok(Listening { listener, address })
+}
+
+// Listens on the port for lines, unless a header alone names the users.
+fn listen_for_lines<'a, R: Net<Stream = TcpStream, Listener = TcpListener>>(
+    rt: &R,
+    offer: &Offer<'a>,
+) -> Result<Option<Listening>, Failure<'a>> {
+    if offer.has_lines() {
+        Ok(Some(listen(rt, offer, offer.address())?))
+    } else {
+        Ok(None)
+    }
 }
 
 // Listens on the port of the page, if one is offered.
@@ -220,7 +315,7 @@ fn listen_for_page<'a, R: Net<Stream = TcpStream, Listener = TcpListener>>(
     offer: &Offer<'a>,
 ) -> Result<Option<Listening>, Failure<'a>> {
     match offer.service.web {
-        Some(port) => Ok(Some(listen(rt, local_address(port))?)),
+        Some(port) => Ok(Some(listen(rt, offer, offer.page_address(port))?)),
         None => Ok(None),
     }
 }
@@ -237,11 +332,15 @@ fn make_page<'x>(offer: &'x Offer<'_>, listening: &'x Option<Listening>) -> Opti
     }
 }
 
-// Returns the further name by which the page may be requested.
+// Returns the further name by which the page may be requested: the one that is given, or else the address where it
+// listens.
 fn web_host<'x>(offer: &'x Offer<'_>) -> Option<&'x [u8]> {
     match &offer.service.web_host {
         Some(name) => Some(name.as_bytes()),
-        None => None,
+        None => match &offer.service.bind {
+            Some(address) => Some(address.as_bytes()),
+            None => None,
+        },
     }
 }
 
@@ -250,7 +349,7 @@ fn make_host<'x, 'a, R: Threads + Wait + Clock + Eprint + Replace + Clone + Send
     rt: &'x R,
     alloc: Global,
     offer: &'x Offer<'a>,
-    ports: Ports,
+    addresses: Addresses,
 ) -> Result<Host<'x, R>, Failure<'a>> {
     let Ok(counters) = make_counters(alloc) else {
         return Err(Failure::Serve(ServeFault::Memory));
@@ -261,7 +360,7 @@ fn make_host<'x, 'a, R: Threads + Wait + Clock + Eprint + Replace + Clone + Send
     };
     Ok(Host {
         rt,
-        ports,
+        addresses,
         folder: offer.service.keep,
         log,
         stats,
