@@ -93,10 +93,10 @@ return told;
 
 
 class Server:
-    """The program with its page, for these users."""
+    """The program with its page, for these users, with further words."""
 
-    def __init__(self, program, users):
-        words = [program, "serve", "--port", "0", "--workers", "0", "--web", "0", *users]
+    def __init__(self, program, users, *more):
+        words = [program, "serve", "--port", "0", "--workers", "0", "--web", "0", *more, *users]
         self.run = subprocess.Popen(words, stdout=subprocess.PIPE)
         lines = [self.run.stdout.readline().decode() for _ in range(2)]
         demand(lines[1].startswith("page at http://"), f"no page is told: {short(''.join(lines))}")

@@ -112,7 +112,9 @@ class Terminal:
 def transcripts():
     """The transcripts of README.md, each without the line of its command."""
     page = (TOP / "README.md").read_text()
-    blocks = [block.split("\n") for block in re.findall(r"^```\n(.*?)\n```$", page, re.S | re.M)]
+    # Blocks of all languages are read, so that the end of one isn't taken for the begin of another.
+    fenced = re.findall(r"^```(\w*)\n(.*?)\n```$", page, re.S | re.M)
+    blocks = [block.split("\n") for language, block in fenced if not language]
     return [block[1:] for block in blocks if block[0].startswith(COMMAND)]
 
 

@@ -1,8 +1,11 @@
-"""Connections that come in pieces, or take no answer, as scripts/test tries them."""
+"""Connections that come in pieces, or take no answer, and seats that keys open, as scripts/test tries them."""
 import contextlib
+import os
+import tempfile
 import time
 
-from lib import ONE, PATIENCE, Service, demand, seated, short, sockets_end
+from lib import ONE, PATIENCE, Process, Service, demand, output, seated, short, sockets_end
+from web import WebClient, page_port
 
 SEATS = {}
 
@@ -63,3 +66,68 @@ def answers_not_taken(program):
         client.must("#x;", "it = 30000 : int (work 2, depth 2)")
         client.leave()
         deaf.close()
+
+
+@contextlib.contextmanager
+def keyed(program):
+    """A file of the keys of ann and bob, and what each of them says first."""
+    with tempfile.TemporaryDirectory() as folder:
+        path = os.path.join(folder, "keys")
+        told = output([program, "keys", "--out", path, "ann", "bob"])
+        yield path, {name: f"user {name} {key}" for name, key, _ in (row.split(" ") for row in told.splitlines())}
+
+
+@check("seats that keys open")
+def by_keys(program):
+    """A key opens the seat of its user over both ports, and the newest connection ends an older one."""
+    with (keyed(program) as (path, first),
+          Service(program, "--web", "0", "--keys", path, "--log", users=["ann", "bob"]) as service):
+        page = page_port(service)
+        for line in ("user ann", first["bob"].replace("bob", "ann"), first["ann"] + "0", first["ann"].upper()):
+            for client in (service.client(), WebClient(page), WebClient(page, path="/session?user=ann")):
+                with client:
+                    client.must(line, "fault user")
+        with WebClient(page, path="/session?user=bob") as client:
+            client.must(first["ann"], "fault user")
+        older = service.client()
+        older.must(first["ann"], "user ann")
+        older.must("x = 3;", "x = 3 : int (work 1, depth 1)")
+        for newer in (WebClient(page, path="/session?user=ann"), service.client()):
+            newer.must(first["ann"], "user ann")
+            newer.must("x;", "it = 3 : int (work 1, depth 1)")
+            rest, took = sockets_end(older)
+            demand(took < 1, f"the older connection is ended after {took:.1f} s")
+            demand(not rest or rest.startswith("("), f"the older connection is told {short(rest)}")
+            older = newer
+        older.close()
+        begun = time.monotonic()
+        while service.complaint().count("newer connection") < 2:
+            demand(time.monotonic() < begun + PATIENCE, f"the log has {short(service.complaint())}")
+            time.sleep(0.02)
+
+
+@check("keys that are renewed")
+def renewed_keys(program):
+    """The old key opens nothing, the new one does, and the other users keep theirs."""
+    with keyed(program) as (path, first):
+        told = output([program, "keys", "--out", path, "--renew", "ann"])
+        name, key, _ = told.rstrip("\n").split(" ")
+        demand(name == "ann" and key not in first["ann"], f"ann is told {short(told)}")
+        with Service(program, "--keys", path, users=["ann", "bob"]) as service:
+            for line, answer in ((first["ann"], "fault user"), (f"user ann {key}", "user ann"),
+                                 (first["bob"], "user bob")):
+                with service.client() as client:
+                    client.must(line, answer)
+
+
+@check("users whom a header names")
+def by_header(program):
+    """Without keys the port for lines isn't listened to. Nothing can name a user of a page that isn't there."""
+    with Process(program, "--user-header", "X-User") as process:
+        status, told = process.ended()
+        demand((status, told) == (2, "") and "--web" in process.complaint(), f"it ends with {status}, {short(told)}")
+    with Process(program, "--web", "0", "--user-header", "X-User") as process:
+        told = process.first_line()
+        demand(told.startswith("page at http://127.0.0.1:"), f"it begins with {short(told)}")
+        with WebClient(int(told.rsplit(":", 1)[1].rstrip("/"))) as client:
+            client.must("user ann", "fault user")
