@@ -6,7 +6,6 @@
 //! - `@compare LINE`: an expression that is evaluated in both ways, and has no other answer.
 //! - `@compared`: writes how many expressions were compared and how often, and whether helpers were granted.
 
-use crate::driver::Driver;
 use crate::forms::{Reading, reading_of};
 use crate::granting::Granting;
 use crate::outcomes::Outcomes;
@@ -143,8 +142,6 @@ impl<'a, R: Threads + Sync> Comparing<'a, R> {
 }
 
 /// Answers the rows of a part, compares the outcomes of each, and writes the rows that are missed and how many hold.
-///
-/// It is no `Driver`: what evaluates between threads knows of them only in a function that is generic over them.
 pub fn try_outcomes<R: Threads + Sync>(
     rt: &R,
     alloc: Global,

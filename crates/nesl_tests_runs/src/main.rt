@@ -1,12 +1,10 @@
 //! Answers rows, and compares each answer with the lines below its row. A line `== NAME` says which part begins:
-//! `types`, `outcomes`, `halves` or `sessions`. The head of the module of that name says what its rows are, and
+//! `outcomes`, `halves` or `sessions`. The head of the module of that name says what its rows are, and
 //! the head of `rows` says how they are written. The program writes the rows that are missed, each with the answer that
 //! was wanted (`-`) and the one that it got (`+`), and after each part how many of its rows hold.
 #![tactic(auto)]
 
 mod comparing;
-mod definitions;
-mod driver;
 mod forms;
 mod gates;
 mod granting;
@@ -18,7 +16,6 @@ mod requests;
 mod rows;
 mod sessions;
 mod told;
-mod types;
 mod writing;
 
 use crate::parts::try_parts;

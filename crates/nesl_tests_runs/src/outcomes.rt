@@ -5,7 +5,6 @@
 //! - `! LINE`: an expression that is evaluated with two levels.
 //! - `? LINE`: an expression that is evaluated with each budget up to its whole work.
 
-use crate::driver::Driver;
 use crate::forms::{Reading, define, reading_of};
 use crate::rows::Asked;
 use crate::told::{LEVELS, WORK, is_same, put_outcome, work_of};
@@ -50,8 +49,9 @@ fn wish_of(word: &str) -> Option<Wish> {
     }
 }
 
-impl Driver for Outcomes {
-    fn follow(
+impl Outcomes {
+    /// Writes the answer to a row, in whole lines.
+    pub fn follow(
         &mut self,
         alloc: Global,
         asked: Asked<'_>,
@@ -69,9 +69,7 @@ impl Driver for Outcomes {
             },
         }
     }
-}
 
-impl Outcomes {
     pub fn new(alloc: Global) -> Outcomes {
         Outcomes {
             env: Env::new(alloc),

@@ -1,12 +1,10 @@
-//! The parts of a run, each with its driver.
+//! The parts of a run.
 
 ghost use Rattle.std.specs.Prelude.{◌≡◌};
 
 use crate::comparing::try_outcomes;
-use crate::definitions::Definitions;
-use crate::driver::try_rows;
 use crate::halves::try_halves;
-use crate::sessions::Sessions;
+use crate::sessions::try_sessions;
 use crate::writing::put_line;
 use nesl_eval_helpers::Pool;
 use std::alloc::{AllocError, Global};
@@ -53,14 +51,12 @@ fn try_part<L: Ledger + Send + Sync, R: Threads + Wait + Clock + Sync>(
 ) -> Result<(), AllocError> {
     let (head, lines) = part.split_once('\n').unwrap_or((part, ""));
     let head = head.strip_prefix("== ").unwrap_or(head);
-    if head == "types" {
-        try_rows(Definitions::new(alloc), alloc, head, lines, out)
-    } else if head == "outcomes" {
+    if head == "outcomes" {
         try_outcomes(rt, alloc, lines, out)
     } else if head == "halves" {
         try_halves(rt, alloc, pool, lines, out)
     } else if head == "sessions" {
-        try_rows(Sessions::new(alloc)?, alloc, head, lines, out)
+        try_sessions(alloc, lines, out)
     } else {
         put_line(out, b"no such part")
     }

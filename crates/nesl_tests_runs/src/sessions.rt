@@ -10,9 +10,8 @@
 //! - `@refused`: writes how many answers were for want of memory.
 //! - `@requests COUNT`: asks for memory this many times, and does nothing with it.
 
-use crate::driver::Driver;
 use crate::requests::request;
-use crate::rows::Asked;
+use crate::rows::{Asked, Rows};
 use crate::writing::{put, put_line, put_unread, put_wrong};
 use linked_list_allocator::LocalHeap;
 use nesl_session::Fault;
@@ -38,14 +37,36 @@ pub const LIMITS: Limits = Limits {
 
 /// A session, and how lines are said to it.
 #[derive(Drop)]
-pub struct Sessions {
+struct Sessions {
     session: Session,
     heap: Option<LocalHeap>,
     again: bool,
     refused: u64,
 }
 
-impl Driver for Sessions {
+/// Answers the rows of a part, and writes those that are missed and how many hold.
+pub fn try_sessions(alloc: Global, text: &str, out: &mut Vec<u8>) -> Result<(), AllocError> {
+    let mut sessions = Sessions {
+        session: Session::new(alloc, LIMITS)?,
+        heap: None,
+        again: false,
+        refused: 0,
+    };
+    sessions.try_rows(alloc, text, out)
+}
+
+impl Sessions {
+    fn try_rows(&mut self, alloc: Global, text: &str, out: &mut Vec<u8>) -> Result<(), AllocError> {
+        let mut rows = Rows::new(alloc);
+        for line in text.lines() {
+            if let Some(asked) = rows.read(line, out)? {
+                self.follow(alloc, asked, rows.answer())?;
+            }
+        }
+        rows.end(alloc, "sessions", out)
+    }
+
+    // Writes the answer to a row, in whole lines.
     fn follow(
         &mut self,
         alloc: Global,
@@ -56,17 +77,6 @@ impl Driver for Sessions {
             Asked::Text(text) => self.say(alloc, text.as_bytes(), out),
             Asked::Directive(word, rest) => self.direct(alloc, word, rest, out),
         }
-    }
-}
-
-impl Sessions {
-    pub fn new(alloc: Global) -> Result<Sessions, AllocError> {
-        Ok(Sessions {
-            session: Session::new(alloc, LIMITS)?,
-            heap: None,
-            again: false,
-            refused: 0,
-        })
     }
 
     fn direct(

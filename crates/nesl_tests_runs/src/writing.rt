@@ -23,11 +23,6 @@ pub fn put_done(
     out.extend_from_slice(text)
 }
 
-/// Writes a line of these bytes, if there was memory for them.
-pub fn put_bytes(out: &mut Vec<u8>, text: Result<Vec<u8>, AllocError>) -> Result<(), AllocError> {
-    put_line(out, text?.as_slice())
-}
-
 /// Writes that a directive can't be read, unless it was.
 pub fn put_unread(is_read: bool, out: &mut Vec<u8>) -> Result<(), AllocError> {
     if is_read { Ok(()) } else { put_wrong(out) }

@@ -1,8 +1,6 @@
-//! Tests of tokens, trees, types, schemes, contexts and equations, by the public calls alone.
+//! Tests of tokens, trees, types, classes and equations, by the public calls alone.
 #![tactic(auto)]
 
-#[cfg(test)]
-mod contexts;
 #[cfg(test)]
 mod deep;
 #[cfg(test)]

@@ -1,6 +1,6 @@
-//! Types, classes and schemes, from words.
+//! Types and classes, from words.
 
-use nesl_types::{Class, Scheme, Ty};
+use nesl_types::{Class, Ty};
 use std::alloc::{AllocError, Global};
 
 fn count(digits: &str) -> u64 {
@@ -23,7 +23,7 @@ pub fn class_named(word: &str) -> Class {
     }
 }
 
-pub fn seq_of(alloc: Global, item: Ty) -> Result<Ty, AllocError> {
+fn seq_of(alloc: Global, item: Ty) -> Result<Ty, AllocError> {
     Ty::seq_of(alloc, &item)
 }
 
@@ -64,39 +64,11 @@ fn push_type(alloc: Global, word: &str, types: &mut Vec<Ty>) -> Result<(), Alloc
     Ok(())
 }
 
-/// The types of words, the last one first. What `seq` and `both` are made of follows them, and an arrow may be
-/// between two types: `both int seq char -> v0` are `(int, [char])` and a variable.
-fn types_of(alloc: Global, words: &str) -> Result<Vec<Ty>, AllocError> {
+/// The type of words. What `seq` and `both` are made of follows them: `both int seq char` is `(int, [char])`.
+pub fn type_of(alloc: Global, words: &str) -> Result<Ty, AllocError> {
     let mut types = Vec::new(alloc);
     for word in words.rsplit(' ') {
-        if word != "->" {
-            push_type(alloc, word, &mut types)?;
-        }
+        push_type(alloc, word, &mut types)?;
     }
-    Ok(types)
-}
-
-/// The first type of words.
-pub fn type_of(alloc: Global, words: &str) -> Result<Ty, AllocError> {
-    let mut types = types_of(alloc, words)?;
     next(&mut types)
-}
-
-fn classes_of(alloc: Global, words: &str) -> Result<Vec<Class>, AllocError> {
-    let mut classes = Vec::new(alloc);
-    for word in words.split_whitespace() {
-        classes.push(class_named(word))?;
-    }
-    Ok(classes)
-}
-
-/// A scheme from words, `TAKES -> GIVES :: CLASSES`, where the classes are those of the variables from 0 on.
-pub fn scheme_of(alloc: Global, words: &str) -> Result<Scheme, AllocError> {
-    let (words, classes) = words.split_once(" :: ").unwrap_or((words, ""));
-    let classes = classes_of(alloc, classes)?;
-    let types = types_of(alloc, words)?;
-    match types.as_slice() {
-        [gives, takes] => Scheme::new(alloc, takes, gives, &classes),
-        _ => Err(AllocError),
-    }
 }

@@ -1,7 +1,7 @@
-//! What is written: numbers, classes, and the texts of types and of the types of functions.
+//! What is written: numbers and classes.
 
-use nesl_types::{Class, Context, Scheme, Ty, scheme_text, type_text};
-use std::alloc::{AllocError, Global};
+use nesl_types::Class;
+use std::alloc::AllocError;
 
 /// Writes a number after a mark.
 pub fn push_number(mark: &str, number: u64, text: &mut String) -> Result<(), AllocError> {
@@ -16,37 +16,4 @@ pub fn word_of(class: Class) -> &'static str {
         Class::Number => "number",
         Class::Logical => "logical",
     }
-}
-
-/// Writes the text of a type after a blank.
-pub fn push_type_text(
-    alloc: Global,
-    ty: &Ty,
-    context: &Context<u8>,
-    text: &mut String,
-) -> Result<(), AllocError> {
-    text.push_str(" ")?;
-    push_bytes(text, type_text(alloc, ty, context))
-}
-
-fn push_bytes(text: &mut String, bytes: Result<Vec<u8>, AllocError>) -> Result<(), AllocError> {
-    text.push_str(str::from_utf8(bytes?.as_slice()).unwrap_or(""))
-}
-
-pub fn push_type(
-    alloc: Global,
-    ty: Result<Ty, AllocError>,
-    context: &Context<u8>,
-    text: &mut String,
-) -> Result<(), AllocError> {
-    push_bytes(text, type_text(alloc, &ty?, context))
-}
-
-pub fn push_scheme(
-    alloc: Global,
-    scheme: Result<Scheme, AllocError>,
-    context: &Context<u8>,
-    text: &mut String,
-) -> Result<(), AllocError> {
-    push_bytes(text, scheme_text(alloc, &scheme?, context))
 }

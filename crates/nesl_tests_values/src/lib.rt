@@ -1,4 +1,4 @@
-//! Tests of values, and of the texts of values, faults and replies, by the public calls alone.
+//! Tests of values and of their texts, by the public calls alone.
 #![tactic(auto)]
 
 #[cfg(test)]
@@ -6,13 +6,9 @@ mod chains;
 #[cfg(test)]
 mod desk;
 #[cfg(test)]
-mod faults;
-#[cfg(test)]
 mod made;
 #[cfg(test)]
 mod memory;
-#[cfg(test)]
-mod replies;
 #[cfg(test)]
 mod rows;
 #[cfg(test)]

@@ -1,5 +1,4 @@
 //! Types and a session that the tests are made on.
-use nesl_reply::{Reply, reply_text};
 use nesl_types::{Context, Top, Ty};
 use std::alloc::{AllocError, Global};
 
@@ -18,7 +17,6 @@ fn type_by(alloc: Global, word: &[u8], types: &mut Vec<Ty>) -> Result<Ty, AllocE
         [b'I'] => Ty::int(alloc),
         [b'B'] => Ty::boolean(alloc),
         [b'C'] => Ty::character(alloc),
-        [b'V', number] => Ty::variable(alloc, digit(*number)),
         [b'N', tag] => Ty::named(alloc, digit(*tag)),
         [b'S'] => Ty::seq_of(alloc, &taken(types)?),
         [b'P'] => {
@@ -30,8 +28,8 @@ fn type_by(alloc: Global, word: &[u8], types: &mut Vec<Ty>) -> Result<Ty, AllocE
 }
 
 /// The type of words, each after what it is made of: `I`, `B` and `C` are the numbers, the truth values and the
-/// characters, `V0` a variable, `N0` the datatype with a tag, `S` the sequences of the type before it, and `P` the
-/// pairs of the two before it.
+/// characters, `N0` the datatype with a tag, `S` the sequences of the type before it, and `P` the pairs of the two
+/// before it.
 pub fn type_of(alloc: Global, words: &str) -> Result<Ty, AllocError> {
     let mut types = Vec::new(alloc);
     for word in words.split(' ') {
@@ -53,7 +51,6 @@ fn add_datatype(
 }
 
 fn add_names(alloc: Global, context: &mut Context<u8>) -> Result<(), AllocError> {
-    context.set(alloc, b"x", Top::Variable(Ty::int(alloc)?), 0)?;
     add_datatype(alloc, context, b"point", 0, "I I P")?;
     add_datatype(alloc, context, b"r", 1, "I I P I P")?;
     add_datatype(alloc, context, b"q", 2, "N0 S")
@@ -64,32 +61,4 @@ pub fn session(alloc: Global) -> Result<Context<u8>, AllocError> {
     let mut context = Context::new(alloc);
     add_names(alloc, &mut context)?;
     Ok(context)
-}
-
-/// Texts, one after the other.
-#[derive(Drop)]
-pub struct Page {
-    pub alloc: Global,
-    context: Context<u8>,
-    text: Vec<u8>,
-}
-
-impl Page {
-    pub fn new(alloc: Global, context: Context<u8>) -> Page {
-        Page {
-            alloc,
-            context,
-            text: Vec::new(alloc),
-        }
-    }
-
-    pub fn text(&self) -> &[u8] {
-        self.text.as_slice()
-    }
-
-    /// Adds the text of a reply.
-    pub fn reply(&mut self, reply: Reply<'_>) -> Result<(), AllocError> {
-        let text = reply_text(self.alloc, &reply, &self.context)?;
-        self.text.extend_from_slice(text.as_slice())
-    }
 }
