@@ -33,7 +33,8 @@ if (!cell) return null;
 const text = (part) => cell.querySelector(part)?.textContent ?? null;
 const facts = [...cell.querySelectorAll(".facts > div")].map((row) => [...row.children].map((one) => one.textContent));
 return {count: cell.parentElement.children.length, form: text("pre"), mark: text("mark"), value: text(".value"),
-        wrong: text(".told"), soft: text(".reply p.soft"), facts: Object.fromEntries(facts)};
+        wrong: text(".told p"), raw: text(".raw code"), own: text(".own"), soft: text(".reply p.soft"),
+        facts: Object.fromEntries(facts)};
 """
 SETTLED = """
 const done = arguments[1];
@@ -72,7 +73,8 @@ for (const one of document.body.querySelectorAll("*")) {
   const style = getComputedStyle(one);
   if (!one.checkVisibility() || one.closest(".unseen, .skip, title")) continue;
   const texts = [...one.childNodes].some((part) => part.nodeType === 3 && part.data.trim()) || one.value;
-  if (texts) tell(one, "text", one.closest("svg") ? style.fill : style.color, behind(one), 4.5);
+  const isPainted = one.closest(".sheet > textarea");
+  if (texts && !isPainted) tell(one, "text", one.closest("svg") ? style.fill : style.color, behind(one), 4.5);
   if (one.placeholder) tell(one, "placeholder", getComputedStyle(one, "::placeholder").color, behind(one), 4.5);
   if (one.matches("input:not([type=checkbox]), textarea, button:not(.quiet, .main)")) {
     tell(one, "edge", style.borderTopColor, behind(one.parentElement), 3);

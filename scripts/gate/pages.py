@@ -9,8 +9,8 @@ from lib import ONE, PATIENCE, TOP, Process, Service, demand, loaded, names, sea
 from web import BINARY, PING, TEXT, WebClient, asked, frame, page_port, request, upgrade
 
 PAGE = TOP / "crates" / "nesl_web_files" / "page"
-HEADERS = {"content-security-policy": "default-src 'none'; script-src 'self'; style-src 'self'; connect-src 'self'; "
-                                      "base-uri 'none'; form-action 'none'; frame-ancestors 'none'",
+HEADERS = {"content-security-policy": "default-src 'none'; script-src 'self'; style-src 'self'; img-src 'self'; "
+                                      "connect-src 'self'; base-uri 'none'; form-action 'none'; frame-ancestors 'none'",
            "x-content-type-options": "nosniff", "cache-control": "no-store", "referrer-policy": "no-referrer"}
 LOAD = loaded("stress/load_service")
 PAGES = {}

@@ -55,9 +55,8 @@ pub enum Content {
 
 /// The content security policy. The page loads its own files and connects to its own origin, and to nothing else. No
 /// other page can embed it.
-const POLICY: &[u8] =
-    b"default-src 'none'; script-src 'self'; style-src 'self'; connect-src 'self'; \
-    base-uri 'none'; form-action 'none'; frame-ancestors 'none'";
+const POLICY: &[u8] = b"default-src 'none'; script-src 'self'; style-src 'self'; img-src 'self'; \
+    connect-src 'self'; base-uri 'none'; form-action 'none'; frame-ancestors 'none'";
 
 // The fields of each answer: the policy, and that browsers neither guess types, nor keep answers, nor send the page's
 // address to others.

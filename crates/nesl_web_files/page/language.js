@@ -1,14 +1,14 @@
-/** What the page knows of lines and replies: the parts of a form, places in it, replies, faults, and numbers for n. */
+/** What the page knows of lines and replies: tokens, places in bytes, replies, errors in words, and numbers for n. */
 
-/** The most bytes that a form may have, its parts together. */
+/** The most bytes that a line may have. */
 export const MOST = 65536;
 
-/** What each fault means, in a sentence. */
+/** What each error means, in a sentence. */
 export const FAULTS = {
-  long: "A form has at most 65,536 bytes, its parts together.",
+  long: "An input has at most 65,536 bytes.",
   lexical: "No token begins at this byte.",
-  syntax: "The tokens are no form: one definition, one expression or one command, most of which end in a semicolon.",
-  nested: "The form is more than 100 high: too many parts are nested in one another.",
+  syntax: "An input is one definition, one expression or one command, and this is none of them.",
+  nested: "The input is more than 100 high: too many parts are nested in one another.",
   unknown: "This name refers to nothing.",
   type: "There is no type: what a function or sign is given isn’t what it takes.",
   ambiguous: "The expression’s type isn’t determined.",
@@ -60,32 +60,33 @@ export const grouped = (number) => String(number).replace(/\B(?=(\d{3})+$)/g, ",
 /** How many bytes a text has as UTF-8. */
 export const bytesOf = (text) => new TextEncoder().encode(text).length;
 
-/** A form as it is sent: each line but the last ends in a backslash. */
-export function partsOf(form) {
-  const lines = form.split("\n");
-  return lines.map((line, place) => (place < lines.length - 1 ? `${line}\\` : line));
-}
+const bytesOfOne = (code) => (code < 0x80 ? 1 : code < 0x800 ? 2 : code < 0x10000 ? 3 : 4);
 
-/** A form as it is kept: no blanks around it, and no backslashes before its line breaks. */
-export const tidied = (text) => text.trim().replace(/\\\n/g, "\n");
-
-/** The parts of a text before the bytes from..to, in them, and after them. Characters are never cut. */
-export function cutAt(text, from, to) {
-  const cut = ["", "", ""];
-  let byte = 0;
+/** The places in a text of the bytes from..to, so that characters are never cut. */
+export function placesOf(text, from, to) {
+  let [byte, at] = [0, 0];
+  let [start, end] = [text.length, text.length];
   for (const character of text) {
-    const end = byte + bytesOf(character);
-    cut[end <= from ? 0 : byte < to ? 1 : 2] += character;
-    byte = end;
+    const after = byte + bytesOfOne(character.codePointAt(0));
+    if (byte <= from && from < after) start = at;
+    if (byte >= to) {
+      end = at;
+      break;
+    }
+    at += character.length;
+    byte = after;
   }
-  return cut;
+  return [start, Math.max(start, end)];
 }
 
-const TOKENS = /%[^%]*%?|"[^"]*"?|`[ -~]|[a-z]\w*|\d+|\s+|[^]/gi;
+const TOKENS = /%[^%]*%?|"[^"\n]*"?|`[ -~]|[a-z]\w*|\d+|\s+|[^]/gi;
+
+/** The tokens of a text, with the blanks and comments between them. */
+export const tokensOf = (text) => text.match(TOKENS) ?? [];
 
 /** An expression with a number in place of n, as a whole token; null if there is no n in it. */
 export function withNumber(expression, number) {
-  const tokens = expression.match(TOKENS) ?? [];
+  const tokens = tokensOf(expression);
   const calls = (place) => tokens.slice(place + 1).find((token) => !/^[%\s]/.test(token)) === "(";
   let found = false;
   const put = tokens.map((token, place) => {

@@ -1,6 +1,7 @@
-/** What is left of the session, and its names with their types, at the side of the page. */
+/** What is left of the session's budget, and its names with their types, at the side of the page. */
+import { short } from "./curves.js";
 import { find, make } from "./dom.js";
-import { keep, kept } from "./kept.js";
+import { book } from "./kept.js";
 import { grouped, readReply } from "./language.js";
 import { session } from "./session.js";
 
@@ -13,14 +14,28 @@ const names = new Map();
 let waiting = 0;
 /** The work of a whole session, as far as this page knows: no reply has it, so it is the most that was left. */
 let mostWork = WORK;
+/** The budget as it was told last. */
+let last = null;
 
-/** Shows what was kept, and listens to replies. */
+/** The names that the session has, each with its type as far as it is known. */
+export const ownNames = () => names;
+
+/** The work that is left, as far as it is known. */
+export const workLeft = () => Number(last?.work ?? 0);
+
+/** Shows what is kept of a user. */
+export function showLeft() {
+  names.clear();
+  (book.words.names ?? []).forEach(([name, type]) => names.set(name, type));
+  mostWork = book.words.mostWork ?? WORK;
+  last = book.words.budget ?? null;
+  drawNames();
+}
+
+/** Listens to replies. */
 export function openLeft() {
-  (kept.names ?? []).forEach(([name, type]) => names.set(name, type));
-  mostWork = kept.mostWork ?? WORK;
   session.addEventListener("told", ({ detail }) => learn(detail.line, readReply(detail.reply)));
   find("ask").addEventListener("click", () => askAll(() => true, Infinity));
-  drawNames();
 }
 
 /** Asks for the budget soon, once for all forms that are sent until then. */
@@ -45,12 +60,12 @@ const isOfFunction = (type) => / -> /.test(type);
 function learn(line, told) {
   const asked = /^:type (\w+);$/.exec(line)?.[1];
   if (told.kind === "value" || told.kind === "function") names.set(told.name, told.type);
-  else if (told.kind === "reset") names.clear();
+  else if (told.kind === "reset") [last] = [null, names.clear()];
   else if (told.kind === "names") order(told.names?.split(", ") ?? []);
   else if (names.has(asked) && told.kind === "type") names.set(asked, told.type);
   else if (names.has(asked) && told.word === "unknown" && !isOfFunction(names.get(asked))) names.set(asked, "");
-  else if (told.kind === "budget") drawBars(told);
-  keep({ names: [...names], mostWork });
+  else if (told.kind === "budget") takeBudget(told);
+  book.keep({ names: [...names], mostWork, budget: last });
   drawNames();
 }
 
@@ -71,11 +86,40 @@ function drawType(type) {
   return type ? make("dd.code", type) : make("dd.soft", type === "" ? "defined elsewhere" : "…");
 }
 
-function drawBars(told) {
-  const most = { elements: told.mostElements, lines: told.mostLines, bytes: told.mostBytes };
-  const rows = Object.entries(most).map(([name, all]) => drawBar(name, Number(all) - Number(told[name]), Number(all)));
+/** Takes a budget. One session has ever more lines, and ever less work, unless it is reset: else this is another. */
+function takeBudget(told) {
+  const isOther = last && (Number(told.lines) <= Number(last.lines) || Number(told.work) > Number(last.work));
+  last = told;
   mostWork = Math.max(mostWork, Number(told.work));
-  find("bars").replaceChildren(drawBar("work", Number(told.work), mostWork), ...rows);
+  drawBars(told);
+  if (isOther) session.dispatchEvent(new Event("other"));
+}
+
+/** What helps where little is left. */
+const ADVICE = {
+  work: "Used work doesn’t come back. Whoever runs the server can renew the session.",
+  elements: "Bind large values no more, or enter :reset, which forgets all names.",
+  lines: "The command :reset makes room, and forgets all names.",
+  bytes: "The command :reset makes room, and forgets all names.",
+};
+
+/** Each part of the budget: its name, what is left of it, and all of it. */
+function partsOf(told) {
+  const most = { elements: told.mostElements, lines: told.mostLines, bytes: told.mostBytes };
+  const rest = Object.entries(most).map(([name, all]) => [name, Number(all) - Number(told[name]), Number(all)]);
+  return [["work", Number(told.work), mostWork], ...rest];
+}
+
+/** A bar for each part of which a tenth is gone; the others are one line, with their numbers folded. */
+function drawBars(told) {
+  const parts = partsOf(told);
+  const isSeen = ([, left, most]) => left < 0.9 * most;
+  const rest = parts.filter((part) => !isSeen(part));
+  find("bars").replaceChildren(...parts.filter(isSeen).map((part) => drawBar(...part)));
+  const names = rest.map(([name]) => name).join(", ").replace(/, (\w+)$/, " and $1");
+  find("rest").textContent = rest.length ? `Over nine tenths of ${names} are left.` : "";
+  find("numbers").replaceChildren(...parts.map(([name, left, most]) => Object.assign(make("div", make("dt", name),
+    make("dd", `${grouped(left)} of ${grouped(most)}`)), { id: `left-${name}` })));
 }
 
 function drawBar(name, left, most) {
@@ -86,5 +130,7 @@ function drawBar(name, left, most) {
     role: "meter", ariaLabel: `${name} left`, ariaValueText: text,
     ariaValueMin: "0", ariaValueMax: String(most), ariaValueNow: String(left),
   });
-  return Object.assign(make("div", make("dt", name), make("dd", text), make("dd", bar)), { id: `left-${name}` });
+  const parts = [make("dt", name), make("dd", short(left)), make("dd", bar)];
+  if (left < most / 10) parts.push(make("dd.soft", ADVICE[name]));
+  return Object.assign(make("div", ...parts), { id: `bar-${name}` });
 }

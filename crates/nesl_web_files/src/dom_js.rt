@@ -47,4 +47,29 @@ export function growing(field, enter) {
     fit();
   };
 }
+
+/** Has the browser save a text as a file. */
+export function save(name, kind, text) {
+  const href = URL.createObjectURL(new Blob([text], { type: kind }));
+  const link = Object.assign(make("a"), { href, download: name });
+  link.click();
+  setTimeout(() => URL.revokeObjectURL(link.href), 1000);
+}
+
+/** Asks in a window before the page, and gives which of the answers was chosen; null for none. */
+export function asked(text, answers) {
+  return new Promise((settle) => {
+    const row = make("div.row", ...answers.map((answer, at) => button(at ? "button" : "button.main", answer,
+      () => settle(answer))));
+    const window = make("dialog.card", make("p", text), row);
+    const end = () => {
+      settle(null);
+      window.remove();
+    };
+    window.addEventListener("close", end);
+    row.addEventListener("click", () => window.close());
+    document.body.append(window);
+    window.showModal();
+  });
+}
 "##;

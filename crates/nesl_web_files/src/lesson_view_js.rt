@@ -2,15 +2,20 @@
 
 /// The text.
 pub static TEXT: &str =
-    r##"/** The lessons: their texts, and for each block a button that puts its forms into the notebook. */
+    r##"/** The lessons and exercises: their texts, and for each block its replies, with a button for the notebook. */
 import { button, find, make } from "./dom.js";
+import { painted } from "./editor.js";
+import { drawExercise } from "./exercise.js";
+import { book } from "./kept.js";
 
 let put = () => {};
+let afterRun = () => {};
 let fetched = false;
 
-/** Makes the view ready, with what is to be done with the forms of a block and the title of its lesson. */
-export function openLessons(act) {
+/** Makes the view ready, with what is to be done with the program of a block, and after tests were run. */
+export function openLessons(act, then) {
   put = act;
+  afterRun = then;
 }
 
 /** Shows the view: the lessons are fetched when they are first wanted. */
@@ -26,10 +31,28 @@ export async function showLessons() {
   }
 }
 
+/** A lesson is open as it was left. */
 function drawLesson({ title, about, parts }, place) {
   const head = make("summary", make("h3", `${place + 1}. ${title}`), " ", make("span.soft", ...worded(about)));
-  const say = (forms) => put(forms, `Lesson ${place + 1}`);
-  return make("details.card.lesson", head, make("div", ...parts.map(([kind, what]) => DRAWN[kind](what, say))));
+  const lesson = make("details.card.lesson", head, make("div", ...drawParts(parts)));
+  const opened = new Set(book.words.lessons);
+  lesson.open = opened.has(title);
+  lesson.addEventListener("toggle", () => {
+    const now = new Set(book.words.lessons);
+    if (lesson.open) now.add(title);
+    else now.delete(title);
+    book.keep({ lessons: [...now] });
+  });
+  return lesson;
+}
+
+/** The parts of a lesson; what comes below the heading of a solution is folded. */
+function drawParts(parts) {
+  const at = parts.findIndex(([kind, text]) => kind === "h" && text === "Solution");
+  const draw = ([kind, what]) => DRAWN[kind](what);
+  if (at < 0) return parts.map(draw);
+  const folded = make("details.solution", make("summary", make("h4", "Solution")), ...parts.slice(at + 1).map(draw));
+  return [...parts.slice(0, at).map(draw), folded];
 }
 
 /** How each kind of part is drawn. */
@@ -39,11 +62,13 @@ const DRAWN = {
   list: (items) => make("ul", ...items.map((item) => make("li", ...worded(item)))),
   code: (text) => make("pre", text),
   table: (rows) => make("div.scroll", make("table", ...rows.map(drawRow))),
-  say: (forms, say) => {
-    const act = button("button", "Put into the notebook", () => say(forms));
-    act.ariaLabel = `Put into the notebook: ${forms[0]} and so on`;
-    return make("div.block", make("pre", ...forms.map((form) => make("code", form))), act);
+  say: (pairs) => {
+    const act = button("button", "Put into the notebook", () => put(pairs.map(([form]) => form).join("\n")));
+    act.ariaLabel = `Put into the notebook: ${pairs[0][0]} and so on`;
+    const rows = pairs.flatMap(([form, reply]) => [make("code", painted(form)), make("samp", reply)]);
+    return make("div.block", make("pre", ...rows), act);
   },
+  exercise: (exercise) => drawExercise(exercise, () => afterRun()),
 };
 
 function drawRow(cells, place) {

@@ -3,6 +3,14 @@
 
 mod curves_js;
 mod dom_js;
+mod editor_js;
+mod exercise_js;
+mod files_js;
+mod fit_js;
+mod forms_js;
+mod help_js;
+mod help_table_js;
+mod icon_svg;
 mod index_html;
 mod kept_js;
 mod language_js;
@@ -30,6 +38,8 @@ const JSON: &str = "application/json; charset=utf-8";
 
 const SCRIPT: &str = "text/javascript; charset=utf-8";
 
+const SVG: &str = "image/svg+xml";
+
 // A file of the page and its path.
 #[derive(Clone, Copy)]
 struct Placed {
@@ -47,11 +57,11 @@ pub enum Lasting {
 }
 
 impl Lasting {
-    // What the page's other scripts import of it.
+    // What the page's other scripts import of it, and whether the service answers errors with hints.
     fn script(self) -> &'static str {
         match self {
-            Lasting::InMemory => "export const ARE_KEPT = false;\n",
-            Lasting::Kept => "export const ARE_KEPT = true;\n",
+            Lasting::InMemory => "export const ARE_KEPT = false;\nexport const HINTS = false;\n",
+            Lasting::Kept => "export const ARE_KEPT = true;\nexport const HINTS = false;\n",
         }
     }
 }
@@ -72,22 +82,30 @@ pub fn file_at(path: &str, lasting: Lasting) -> Option<File> {
     None
 }
 
-fn all_files() -> [Placed; 14] {
+fn all_files() -> [Placed; 22] {
     [
         at("/", HTML, index_html::TEXT),
         at("/index.html", HTML, index_html::TEXT),
         at("/style.css", CSS, style_css::TEXT),
+        at("/icon.svg", SVG, icon_svg::TEXT),
         at("/lessons.json", JSON, lessons_json::TEXT),
         at("/main.js", SCRIPT, main_js::TEXT),
         at("/dom.js", SCRIPT, dom_js::TEXT),
         at("/kept.js", SCRIPT, kept_js::TEXT),
         at("/session.js", SCRIPT, session_js::TEXT),
         at("/language.js", SCRIPT, language_js::TEXT),
+        at("/forms.js", SCRIPT, forms_js::TEXT),
+        at("/editor.js", SCRIPT, editor_js::TEXT),
+        at("/help.js", SCRIPT, help_js::TEXT),
+        at("/help_table.js", SCRIPT, help_table_js::TEXT),
         at("/notebook.js", SCRIPT, notebook_js::TEXT),
+        at("/files.js", SCRIPT, files_js::TEXT),
         at("/left.js", SCRIPT, left_js::TEXT),
         at("/measure.js", SCRIPT, measure_js::TEXT),
+        at("/fit.js", SCRIPT, fit_js::TEXT),
         at("/curves.js", SCRIPT, curves_js::TEXT),
         at("/lesson_view.js", SCRIPT, lesson_view_js::TEXT),
+        at("/exercise.js", SCRIPT, exercise_js::TEXT),
     ]
 }
 

@@ -3,8 +3,10 @@
 /// The text.
 pub static TEXT: &str =
     r##"/** The session over one WebSocket: lines go out one after the other, and each is answered by one reply. */
-import { bytesOf } from "./language.js";
+import * as server from "./lasting.js";
 
+/** With it a server sends a hint after an answer that is an error. */
+const HINTS = "pazkindu.hints";
 const BUSY_TRIES = 5;
 const BUSY_WAIT = 300;
 
@@ -16,9 +18,11 @@ class Session extends EventTarget {
   constructor() {
     super();
     this.user = "";
-    /** How many bytes of a form wait in the session for the rest. */
-    this.pending = 0;
     this.socket = null;
+    /** Whether hints are asked for: a browser gives up where a server doesn't know what it is asked for. */
+    this.hints = server.HINTS ?? false;
+    /** The line that was answered last. */
+    this.line = "";
     this.turn = Promise.resolve();
   }
 
@@ -27,14 +31,25 @@ class Session extends EventTarget {
   }
 
   /** Connects as a user with this key, if there is one; gives "" once seated, else "user", "busy" or "unreachable". */
-  connect(user, key) {
+  async connect(user, key) {
+    const fault = await this.open(user, key, this.hints ? [HINTS] : []);
+    if (fault !== "unopened" || !this.hints) return fault === "unopened" ? "unreachable" : fault;
+    this.hints = false;
+    return this.connect(user, key);
+  }
+
+  open(user, key, protocols) {
     this.end();
     this.opening?.close();
     return new Promise((settle) => {
-      const socket = new WebSocket(address(encodeURIComponent(user)));
+      const socket = new WebSocket(address(encodeURIComponent(user)), protocols);
       this.opening = socket;
-      socket.onopen = () => socket.send(key ? `user ${user} ${key}` : `user ${user}`);
-      socket.onclose = () => settle("unreachable");
+      let ended = "unopened";
+      socket.onopen = () => {
+        ended = "unreachable";
+        socket.send(key ? `user ${user} ${key}` : `user ${user}`);
+      };
+      socket.onclose = () => settle(ended);
       socket.onmessage = ({ data }) => {
         if (data !== `user ${user}`) return settle(data.replace("fault ", ""));
         this.seat(socket, user);
@@ -55,13 +70,22 @@ class Session extends EventTarget {
   seat(socket, user) {
     this.socket = socket;
     this.user = user;
-    socket.onclose = ({ code }) => {
+    socket.onclose = ({ wasClean }) => {
       if (this.socket !== socket) return;
       this.socket = null;
       this.answered?.(null);
-      this.dispatchEvent(new CustomEvent("lost", { detail: code }));
+      this.dispatchEvent(new CustomEvent("lost", { detail: wasClean }));
     };
-    socket.onmessage = ({ data }) => this.answered?.(data);
+    socket.onmessage = ({ data }) => (data[0] === "{" ? this.hint(data) : this.answered?.(data));
+  }
+
+  /** A hint on the line that was answered last: no reply begins with a brace. */
+  hint(data) {
+    try {
+      this.dispatchEvent(new CustomEvent("hint", { detail: { line: this.line, ...JSON.parse(data) } }));
+    } catch {
+      // It is no hint.
+    }
   }
 
   /** Ends the connection; the session itself stays with the server. */
@@ -81,28 +105,14 @@ class Session extends EventTarget {
     });
     this.answered = null;
     if (reply === null) return null;
-    if (reply === "more") this.pending += bytesOf(line);
-    else if (!/^fault (long|transcript|memory)/.test(reply)) this.pending = 0;
+    this.line = line;
     this.dispatchEvent(new CustomEvent("told", { detail: { line, reply } }));
     return reply;
   }
 
-  /** Says the lines of a form, with no other between them, while they are answered `more`; `start` is what waited. */
-  say(lines) {
-    return this.inTurn(async () => {
-      const start = this.pending;
-      const replies = [];
-      for (const line of lines) {
-        replies.push(await this.exchange(line));
-        if (replies[replies.length - 1] !== "more") break;
-      }
-      return { start, replies };
-    });
-  }
-
-  /** Asks a line of the page's own, unless a form goes on, which it would end; then the reply is null. */
+  /** Sends a line after those that wait, and gives its reply. */
   ask(line) {
-    return this.inTurn(() => (this.pending ? null : this.exchange(line)));
+    return this.inTurn(() => this.exchange(line));
   }
 
   inTurn(act) {

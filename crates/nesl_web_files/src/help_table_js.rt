@@ -1,0 +1,56 @@
+//! `page/help_table.js`, by scripts/page_files.
+
+/// The text.
+pub static TEXT: &str =
+    r##"/** Functions, the help on forms, and reserved words, by scripts/page_files from the tables of the prompt. */
+export const ROWS = [
+  ["+ - *", "`+`, `-`, `*`", "; `overflow`", "", "(a, a) -> a :: (a in number)"],
+  ["/", "`/`", "towards zero; `division` by 0, `overflow`", "", "(a, a) -> a :: (a in number)"],
+  ["negate abs", "`-` before one, `negate`, `abs`", "; `overflow`", "", "a -> a :: (a in number)"],
+  ["rem", "`rem`", "a - b * (a / b); `division` by 0", "", "(int, int) -> int"],
+  ["max min", "`max`, `min`", "", "", "(a, a) -> a :: (a in ordinal)"],
+  ["== /= < > <= >=", "`==`, `/=`, `<`, `>`, `<=`, `>=`", "characters by their byte", "", "(a, a) -> bool :: (a in ordinal)"],
+  ["plusp minusp zerop", "`plusp`, `minusp`, `zerop`", "above, below, equal to 0", "", "a -> bool :: (a in number)"],
+  ["oddp evenp", "`oddp`, `evenp`", "", "", "int -> bool"],
+  ["and or xor nand nor", "`and`, `or`, `xor`, `nand`, `nor`", "bit by bit on int; both sides are evaluated", "", "(a, a) -> a :: (a in logical)"],
+  ["not", "`not`", "all bits on int", "", "a -> a :: (a in logical)"],
+  ["lshift", "`lshift`", "a * 2^n; `range` unless n is 0 to 63, `overflow`", "", "(int, int) -> int"],
+  ["rshift", "`rshift`", "a / 2^n rounded down; `range` unless n is 0 to 63", "", "(int, int) -> int"],
+  ["isqrt", "`isqrt`", "the greatest r with r * r at most a; `range` below 0", "", "int -> int"],
+  ["btoi", "`btoi`", "T is 1, F is 0", "", "bool -> int"],
+  ["char_code", "`char_code`", "", "", "char -> int"],
+  ["code_char", "`code_char`", "; `code` unless 0 to 255", "", "int -> char"],
+  ["#", "`#v`", "the length", "0", "[a] -> int"],
+  ["v[i]", "`v[i]`", "; `range` unless i is 0 to n - 1", "0", "([a], int) -> a"],
+  ["++", "`v ++ w`", "v, then w", "n + m", "([a], [a]) -> [a]"],
+  ["dist", "`dist(x, k)`", "k times x; `length` if k is below 0", "0", "(a, int) -> [a]"],
+  ["[s:e] [s:e:d]", "`[s:e]`, `[s:e:d]`", "s, s + d, .. below e; `stride` if d is below 1", "0", "(int, int) -> [int]"],
+  ["index", "`index(k)`", "0 to k - 1; `length` if k is below 0", "0", "int -> [int]"],
+  ["sum", "`sum(v)`", "0 for none; `overflow` if the exact sum doesn't fit", "R n", "[a] -> a :: (a in number)"],
+  ["max_val min_val", "`max_val(v)`, `min_val(v)`", "; `empty`", "R n", "[a] -> a :: (a in ordinal)"],
+  ["max_index min_index", "`max_index(v)`, `min_index(v)`", "the first place of the greatest or least; `empty`", "R n", "[a] -> int :: (a in ordinal)"],
+  ["any all", "`any(v)`, `all(v)`", "for none F, T", "R n", "[bool] -> bool"],
+  ["count", "`count(v)`", "the number of T", "R n", "[bool] -> int"],
+  ["plus_scan", "`plus_scan(v)`", "at each place the sum of those before it; `overflow` if one doesn't fit", "R n", "[a] -> [a] :: (a in number)"],
+  ["or_scan and_scan", "`or_scan(v)`, `and_scan(v)`", "the same; first F and T, of int 0 and -1", "R n", "[a] -> [a] :: (a in logical)"],
+  ["flatten", "`flatten(v)`", "one level removed", "n", "[[a]] -> [a]"],
+  ["partition", "`partition(v, c)`", "pieces of these lengths; `count` if one is below 0 or their sum isn't n", "n + m", "([a], [int]) -> [[a]]"],
+  ["split", "`split(v, b)`", "two pieces: those with F, those with T; `length`", "n + m", "([a], [bool]) -> [[a]]"],
+  ["bottop", "`bottop(v)`", "two halves, the first not the smaller", "n", "[a] -> [[a]]"],
+  ["take", "`take(v, k)`", "the first k, for k below 0 the last -k; `range` if more than n", "n", "([a], int) -> [a]"],
+  ["drop", "`drop(v, k)`", "without these; `range`", "n", "([a], int) -> [a]"],
+  ["reverse", "`reverse(v)`", "", "n", "[a] -> [a]"],
+  ["rotate", "`rotate(v, k)`", "element j goes to place (j + k) modulo n", "n", "([a], int) -> [a]"],
+  ["odd_elts even_elts", "`odd_elts(v)`, `even_elts(v)`", "places 1, 3, ..; places 0, 2, ..", "n", "[a] -> [a]"],
+  ["interleave", "`interleave(v, w)`", "v0, w0, v1, ..; `length` unless n is m or m + 1", "n + m", "([a], [a]) -> [a]"],
+  ["zip", "`zip(v, w)`", "; `length`", "n + m", "([a], [b]) -> [(a, b)]"],
+  ["unzip", "`unzip(v)`", "", "n", "[(a, b)] -> ([a], [b])"],
+  ["permute", "`permute(v, i)`", "element j goes to place i[j]; `length`, `range`, `permutation` if one repeats", "n + m", "([a], [int]) -> [a]"],
+  ["->", "`v -> i`", "the elements at these places; `range`", "n + m", "([a], [int]) -> [a]"],
+  ["<-", "`v <- p`", "these written to their places in order, so the last wins; `range`", "n + m", "([a], [(int, a)]) -> [a]"],
+  ["rep", "`rep(v, x, i)`", "v with x at place i; `range`", "n", "([a], a, int) -> [a]"],
+  ["eql", "`eql(x, y)`", "whether they are the same", "the nodes of both", "(a, a) -> bool"],
+];
+export const FORMS = {"let": "let p = e; q = e; .. in e\n  binds in order; each binding sees those before it\n  work 1 and depth 1, besides the parts", "if": "if e then e else e\n  only the branch that is taken is evaluated\n  work 1 and depth 1, besides the parts", "function": "function name pattern [: type -> type [:: (name in class; ..)]] = exp;\n  defines a function\n  a call costs work 1 and depth 1, besides the argument and the body", "datatype": "datatype name type;\n  defines a datatype, which wraps one value: `name(e)` makes one\n  a record costs work 1 and depth 1, besides its part", "in": "{e : p in e; q in e; .. | e}\n  evaluates the body at each place that the filter keeps, all in parallel\n  work 1 + the nodes of each value, depth 1 + the deepest filter and body", "{": "{e : p in e; q in e; .. | e}\n  evaluates the body at each place that the filter keeps, all in parallel\n  work 1 + the nodes of each value, depth 1 + the deepest filter and body", "names": ":names\n  shows the names in order of first definition", "budget": ":budget\n  shows the work that is left, and how much of the other limits is used", "reset": ":reset\n  forgets all but the work that was used"};
+export const WORDS = ["and", "bool", "char", "datatype", "else", "function", "if", "in", "int", "let", "nand", "nor", "or", "then", "xor"];
+"##;
