@@ -1,0 +1,4 @@
+pub mod Runs
+pub mod Rows
+pub mod Fronts
+pub mod GradeLemmas

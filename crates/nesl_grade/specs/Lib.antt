@@ -1,0 +1,4 @@
+pub mod Lines
+pub mod Graded
+pub mod Outcomes
+pub mod Grades

@@ -1,0 +1,13 @@
+//! The grades of submissions: a table, CSV, JSON, JUnit and pages.
+#![tactic(auto)]
+
+pub mod book;
+pub mod class_page;
+pub mod csv_text;
+mod curve;
+pub mod json;
+pub mod junit;
+mod out;
+pub mod page;
+pub mod table;
+mod told;

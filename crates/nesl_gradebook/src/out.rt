@@ -1,0 +1,129 @@
+//! A report in the making.
+
+use std::alloc::{AllocError, Global};
+
+/// How a text that strangers wrote is written, so that it can't end what it is part of.
+#[derive(Clone, Copy)]
+pub(crate) enum Escape {
+    /// On a terminal.
+    Plain,
+    /// Between the quotes of CSV.
+    Csv,
+    /// Between the quotes of JSON.
+    Json,
+    /// In XML or HTML. Line ends and tabs stay.
+    Markup,
+}
+
+/// A report in the making. If memory runs out, what follows is dropped, and so is the report at its end.
+#[derive(Drop)]
+pub(crate) struct Out {
+    alloc: Global,
+    text: String,
+    is_lost: bool,
+}
+
+impl Out {
+    pub(crate) fn new(alloc: Global) -> Out {
+        Out {
+            alloc,
+            text: String::new(alloc),
+            is_lost: false,
+        }
+    }
+
+    /// Appends a text of our own as it is.
+    pub(crate) fn put(&mut self, text: &str) {
+        if self.text.push_str(text).is_err() {
+            self.is_lost = true;
+        }
+    }
+
+    pub(crate) fn put_number(&mut self, number: u128) {
+        match number.to_string(self.alloc) {
+            Ok(digits) => self.put(digits.as_str()),
+            Err(_) => self.is_lost = true,
+        }
+    }
+
+    /// Appends a text of our own and a number.
+    pub(crate) fn put_named(&mut self, name: &str, number: u64) {
+        self.put(name);
+        self.put_number(u128::from(number));
+    }
+
+    /// Appends a text that strangers wrote. Bytes that aren't UTF-8 are replaced, and control characters left out.
+    pub(crate) fn put_shown(&mut self, escape: Escape, text: &[u8]) {
+        self.put_shown_up_to(escape, text, usize::MAX);
+    }
+
+    /// The same for its first characters, at most this many. If there are more, three dots follow.
+    pub(crate) fn put_shown_up_to(&mut self, escape: Escape, text: &[u8], most: usize) {
+        match String::from_utf8_lossy(self.alloc, text) {
+            Ok(text) => {
+                for (count, character) in text.chars().enumerate() {
+                    if count >= most {
+                        self.put("...");
+                        return;
+                    }
+                    self.put_character(escape, character);
+                }
+            }
+            Err(_) => self.is_lost = true,
+        }
+    }
+
+    fn put_character(&mut self, escape: Escape, character: char) {
+        if let Some(text) = escaped(escape, character) {
+            self.put(text);
+        } else if is_shown(character) {
+            if self.text.push(character).is_err() {
+                self.is_lost = true;
+            }
+        }
+    }
+
+    /// Returns the report.
+    pub(crate) fn finish(self) -> Result<Vec<u8>, AllocError> {
+        let Out { text, is_lost, .. } = self;
+        if is_lost {
+            return Err(AllocError);
+        }
+        Ok(text.into_bytes())
+    }
+}
+
+// Whether a character is written where it is not escaped. XML has no place for the last two.
+fn is_shown(character: char) -> bool {
+    !character.is_control() && character != '\u{fffe}' && character != '\u{ffff}'
+}
+
+// What is written in place of a character.
+fn escaped(escape: Escape, character: char) -> Option<&'static str> {
+    match escape {
+        Escape::Plain => None,
+        Escape::Csv => match character {
+            '"' => Some("\"\""),
+            _ => None,
+        },
+        Escape::Json => match character {
+            '"' => Some("\\\""),
+            '\\' => Some("\\\\"),
+            _ => None,
+        },
+        Escape::Markup => in_markup(character),
+    }
+}
+
+fn in_markup(character: char) -> Option<&'static str> {
+    match character {
+        '&' => Some("&amp;"),
+        '<' => Some("&lt;"),
+        '>' => Some("&gt;"),
+        '"' => Some("&quot;"),
+        '\'' => Some("&#39;"),
+        '\n' => Some("\n"),
+        '\t' => Some("\t"),
+        _ => None,
+    }
+}
