@@ -13,7 +13,7 @@ use Rattle.nesl_line.specs.declared.exchange.End.{End}
 use Rattle.nesl_line.specs.declared.exchange.End.TheVariants.{Input, ReadFault, WriteFault}
 use Rattle.nesl_prompt.specs.Conversation.{IsPrompt}
 use Rattle.nesl_prompt.specs.Points.{is_plain}
-use Rattle.nesl_words.specs.Words.{Task, a_batch, some_costs, a_service, a_prompt, a_look, some_keys}
+use Rattle.nesl_words.specs.Words.{Task, a_batch, some_costs, a_service, a_prompt, a_look, some_keys, a_grading}
 use Rattle.nesl_words.specs.Words.{LimitWords, Prompt}
 use Rattle.nesl_words.specs.Words.{users_of, task_of}
 use Rattle.nesl_cli.specs.Offered.{task_handed, users_handed}
@@ -142,6 +142,7 @@ TaskFails terminals (a_prompt prompt) failure users left left' held held' =
 TaskFails terminals (a_look keep) failure users left left' held held' = Consumes left left' []
 TaskFails terminals (a_service service) failure users left left' held held' = ⊥
 TaskFails terminals (some_keys keys) failure users left left' held held' = ⊥
+TaskFails terminals (a_grading grading) failure users left left' held held' = ⊥
 
 -- What a task achieved that is run here. A batch or a prompt was answered to the end of its input. Nothing is claimed
 -- of costs, and of a look at kept sessions no more than that nothing was read from the input.
@@ -154,9 +155,10 @@ TaskDone terminals (a_prompt prompt) users left left' held held' =
 TaskDone terminals (a_look keep) users left left' held held' = Consumes left left' []
 TaskDone terminals (a_service service) users left left' held held' = ⊥
 TaskDone terminals (some_keys keys) users left left' held held' = ⊥
+TaskDone terminals (a_grading grading) users left left' held held' = ⊥
 
--- What became of a command line that wasn't refused. Either its task is done; or it asks for a service or
--- for keys, and nothing was read or written yet.
+-- What became of a command line that wasn't refused. Either its task is done; or it asks for a service, for
+-- keys or for a grading, and nothing was read or written yet.
 abbrev pub IsCarriedOut
     : Terminals → Option Offered → (words : List (List ℕ)) → (left left' held held' : Option (List ℕ)) → Type 0
 IsCarriedOut terminals None words left left' held held' =

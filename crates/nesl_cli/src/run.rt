@@ -24,6 +24,7 @@ use nesl_line::hinted::batch_with_hints;
 use nesl_prompt::hints::Hints;
 use nesl_prompt::shelf::Shelf;
 use nesl_session::limits::Limits;
+use nesl_words::grade_words::Grading;
 use nesl_words::words::{self, NewKeys, Service, Task};
 use std::alloc::{AllocError, Global};
 use std::mem::ManuallyDrop;
@@ -51,15 +52,23 @@ pub struct KeysOffer<'a> {
     pub keys: NewKeys<'a>,
 }
 
+/// Submissions that are to be graded.
+#[derive(Drop)]
+pub struct GradeOffer<'a> {
+    pub submissions: Vec<&'a str>,
+    pub grading: Grading<'a>,
+}
+
 /// What the caller has to do.
 #[derive(Drop)]
 pub enum Offered<'a> {
     Service(Offer<'a>),
     Keys(KeysOffer<'a>),
+    Grade(GradeOffer<'a>),
 }
 
 /// Does what the command line asks for. It runs a batch, its costs or a prompt, or looks at kept sessions. For a
-/// service or for keys it returns what is offered, which the caller has to carry out.
+/// service, for keys or for a grading it returns what is offered, which the caller has to carry out.
 pub fn carry_out<'a, S: Source, W: Sink, F: Shelf + KeptFolders>(
     alloc: Global,
     words: &'a [&'a str],
@@ -112,6 +121,10 @@ pub fn carry_out<'a, S: Source, W: Sink, F: Shelf + KeptFolders>(
         },
         Task::Service(service) => Ok(Some(Offered::Service(Offer { users, service }))),
         Task::Keys(keys) => Ok(Some(Offered::Keys(KeysOffer { users, keys }))),
+        Task::Grade(grading) => Ok(Some(Offered::Grade(GradeOffer {
+            submissions: users,
+            grading,
+        }))),
     }
 }
 

@@ -7,6 +7,7 @@ ghost use Rattle.clap.specs.Values.{kind_of};
 ghost use Rattle.nesl_cli.specs.Failures.{status_after, status_of, words_status_of};
 
 mod disk;
+mod graded;
 mod host;
 mod kept;
 mod keys;
@@ -136,6 +137,7 @@ fn run_program<
         + Storage
         + RandomSource
         + Replace
+        + Alloc
         + Clone
         + Drop
         + Send
@@ -157,6 +159,9 @@ fn run_program<
         Ok(Some(Offered::Service(offer))) => run_service(rt, alloc, &offer, devices.files),
         Ok(Some(Offered::Keys(offer))) => {
             finish_offer(rt, keys::make(rt, alloc, &offer, devices.files))
+        }
+        Ok(Some(Offered::Grade(offer))) => {
+            graded::run_grading(rt, alloc, &offer, devices.terminals.output)
         }
         Err(Refusal::Words(error)) => report_refusal(rt, words, &error),
         Err(Refusal::Run(failure)) => report_failure(rt, failure),
@@ -184,10 +189,31 @@ fn run_service<
         Ok(text) => text,
         Err(failure) => return report_failure(rt, failure),
     };
-    match users::add(alloc, offer, text.as_str()) {
-        Ok(offer) => finish_offer(rt, offer::keep(rt, alloc, &offer, shelf)),
-        Err(failure) => report_failure(rt, failure),
-    }
+    let served = serve_listed(rt, alloc, offer, text.as_str(), shelf);
+    finish_offer(rt, served)
+}
+
+// Runs the offered service, with the users of a text. The offer and the text have one lifetime, as the offer with all
+// users needs it.
+fn serve_listed<
+    'x,
+    R: Net<Stream = TcpStream, Listener = TcpListener>
+        + Threads
+        + Wait
+        + Clock
+        + Print
+        + Eprint
+        + Storage
+        + Replace
+        + Clone
+        + Drop
+        + Send
+        + Sync
+        + 'static,
+    F: Shelf,
+>(rt: &R, alloc: Global, offer: &Offer<'x>, text: &'x str, shelf: &F) -> Result<(), Failure<'x>> {
+    let offer = users::add(alloc, offer, text)?;
+    offer::keep(rt, alloc, &offer, shelf)
 }
 
 // Prints the text for a command line that is refused, or that asks for help. Memory that ran out is reported like other

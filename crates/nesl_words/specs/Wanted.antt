@@ -8,8 +8,12 @@ use Rattle.nesl_words.specs.declared.keep_words.KeepWord.TheVariants as word_cod
 use Rattle.nesl_words.specs.declared.words.NewKeys.{NewKeys as NewKeysCode}
 use Rattle.nesl_words.specs.declared.words.Wanted.{Wanted}
 use Rattle.nesl_words.specs.declared.words.LimitWords.{LimitWords as LimitWordsCode}
+use Rattle.nesl_words.specs.declared.grade_words.Grading.{Grading as GradingCode}
+use Rattle.nesl_words.specs.declared.grade_words.Report.{Report as ReportCode}
+use Rattle.nesl_words.specs.declared.grade_words.Report.TheVariants as report_code
 use Rattle.nesl_words.specs.Words.{Task, a_batch, some_costs, a_service, a_prompt, a_look, some_keys}
 use Rattle.nesl_words.specs.Words.{LimitWords, NewKeys, Service}
+use Rattle.nesl_words.specs.Words.{Grading, Report, a_grading, as_table, as_csv, as_json, as_junit}
 use Rattle.nesl_words.specs.Words.{KeepWord, checks, shows, renews, tabulates}
 
 -- the limits
@@ -61,6 +65,23 @@ word_wanted word_code.Csv = tabulates
 abbrev pub option_word : Option WordCode → Option KeepWord
 option_word word = option_map word_wanted word
 
+-- how grades are written
+abbrev pub report_wanted : ReportCode → Report
+report_wanted report_code.Table = as_table
+report_wanted report_code.Csv = as_csv
+report_wanted report_code.Json = as_json
+report_wanted report_code.Junit = as_junit
+
+-- the grading
+abbrev pub grading_wanted : GradingCode → Grading
+grading_wanted grading = record {
+  exercise = option_map (λ exercise. exercise.now) grading.exercise;
+  report = report_wanted grading.report;
+  html = option_map (λ folder. folder.now) grading.html;
+  jobs = grading.jobs;
+  is_try = grading.is_try;
+}
+
 -- what is to be done
 abbrev pub task_wanted : Code → Task
 task_wanted (code.Batch heap is_hinted) = a_batch (record { heap = heap; is_hinted = is_hinted })
@@ -70,6 +91,7 @@ task_wanted (code.Keys keys) = some_keys (keys_wanted keys)
 task_wanted (code.Prompt is_hinted has_files) = a_prompt (record { is_hinted = is_hinted; has_files = has_files })
 task_wanted (code.Keep keep) =
     a_look (record { word = word_wanted keep.word; folder = option_map (λ folder. folder.now) keep.folder })
+task_wanted (code.Grade grading) = a_grading (grading_wanted grading)
 
 -- the users, in order
 abbrev pub users_wanted : Wanted → List (List ℕ)

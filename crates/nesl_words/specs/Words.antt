@@ -194,6 +194,59 @@ keys = record (new_shape (codes "keys")) { rules = out_rule ∷ renew_rule ∷ p
 abbrev pub keep : Shape
 keep = new_shape (codes "keep")
 
+-- `--csv`, `--json` and `--junit`, each at most once
+abbrev pub csv_report_rule : Rule
+csv_report_rule = record (new_rule (codes "CSV")) {
+  long = Some (codes "csv");
+  action = Some SetTrue;
+}
+
+abbrev pub json_report_rule : Rule
+json_report_rule = record (new_rule (codes "JSON")) {
+  long = Some (codes "json");
+  action = Some SetTrue;
+}
+
+abbrev pub junit_report_rule : Rule
+junit_report_rule = record (new_rule (codes "JUNIT")) {
+  long = Some (codes "junit");
+  action = Some SetTrue;
+}
+
+-- `--html FOLDER`: a text, at most once
+abbrev pub html_rule : Rule
+html_rule = record (text_rule (codes "HTML") (codes "html")) { value_names = 1 }
+
+-- `--jobs JOBS`: a number from 1 to 64, at most once
+abbrev pub jobs_rule : Rule
+jobs_rule = number_rule (codes "JOBS") (codes "jobs") 1 64
+
+-- `--try`, at most once
+abbrev pub try_rule : Rule
+try_rule = record (new_rule (codes "TRY")) {
+  long = Some (codes "try");
+  action = Some SetTrue;
+}
+
+-- `EXERCISE`: a text that isn't empty, once
+abbrev pub exercise_rule : Rule
+exercise_rule = record (new_rule (codes "EXERCISE")) {
+  action = Some Set;
+  parser = Some vp.NonEmptyString;
+  required = true;
+}
+
+-- any number of submissions, which are found as users are
+abbrev pub submissions_rule : Rule
+submissions_rule = record further_users_rule { value_names = 1 }
+
+-- the subcommand `grade [--csv] [--json] [--junit] [--html FOLDER] [--jobs JOBS] [--try] EXERCISE [SUBMISSION..]`
+abbrev pub grade : Shape
+grade = record (new_shape (codes "grade")) {
+  rules = csv_report_rule ∷ json_report_rule ∷ junit_report_rule ∷ html_rule ∷ jobs_rule ∷ try_rule
+      ∷ exercise_rule ∷ submissions_rule ∷ [];
+}
+
 -- the program before its subcommands: one is required, help is shown where there are no words, and it has a version
 abbrev pub without_subcommands : App
 without_subcommands = on_top
@@ -204,8 +257,10 @@ without_subcommands = on_top
 abbrev pub program : App
 program =
     with_subcommand
+    (with_subcommand
     (with_subcommand (with_subcommand (with_subcommand (with_subcommand without_subcommands batch) serve) repl) keys)
-    keep
+    keep)
+    grade
 
 -- `FOLDER`: a text that isn't empty, once
 abbrev pub folder_rule : Rule
@@ -367,6 +422,22 @@ pub record Keep : Type 0 where
   pub word : KeepWord
   pub folder : Option (List ℕ)
 
+-- how the grades of submissions are written
+pub data Report : Type 0 where
+  as_table : Report
+  as_csv : Report
+  as_json : Report
+  as_junit : Report
+
+-- A grading. It has an exercise, and a report. It may have a folder for pages, a number of threads, and a flag
+-- for the exercise's own solution.
+pub record Grading : Type 0 where
+  pub exercise : Option (List ℕ)
+  pub report : Report
+  pub html : Option (List ℕ)
+  pub jobs : Option ℕ
+  pub is_try : Bool
+
 -- what is to be done
 pub data Task : Type 0 where
   a_batch : Batch → Task
@@ -375,6 +446,7 @@ pub data Task : Type 0 where
   a_prompt : Prompt → Task
   a_look : Keep → Task
   some_keys : NewKeys → Task
+  a_grading : Grading → Task
 
 -- a batch, or its costs where values for them are given
 abbrev pub batch_among : (values : Option (List ℕ)) → (heap : Option ℕ) → (is_hinted : Bool) → Task
@@ -420,6 +492,20 @@ keys_among rows = record {
   page = text_among (codes "ADDRESS") rows;
 }
 
+-- the first of these reports that is asked for, or else a table
+abbrev pub report_among : (is_csv is_json is_junit : Bool) → Report
+report_among is_csv is_json is_junit =
+    if is_csv then as_csv else if is_json then as_json else if is_junit then as_junit else as_table
+
+abbrev pub grading_among : List Row → Grading
+grading_among rows = record {
+  exercise = text_among (codes "EXERCISE") rows;
+  report = report_among (is_among (codes "CSV") rows) (is_among (codes "JSON") rows) (is_among (codes "JUNIT") rows);
+  html = text_among (codes "HTML") rows;
+  jobs = number_among (codes "JOBS") rows;
+  is_try = is_among (codes "TRY") rows;
+}
+
 -- the word of `keep` with this name, if it is one
 abbrev pub word_named : List ℕ → Option KeepWord
 word_named name =
@@ -442,6 +528,7 @@ task_among name rows =
     if bytes_eq name (codes "serve") then a_service (service_among rows)
     else if bytes_eq name (codes "repl") then a_prompt (prompt_among rows)
     else if bytes_eq name (codes "keys") then some_keys (keys_among rows)
+    else if bytes_eq name (codes "grade") then a_grading (grading_among rows)
     else look_or_batch (word_named name) rows
 
 abbrev pub task_in : Option (List ℕ × List Row) → Task
@@ -463,7 +550,8 @@ keep_is_simple = refl
 -- many workers, and with no second for the first line. Prompts: alone, with hints, with files, and with a user, which
 -- is refused.
 -- Kept sessions: all are checked, one is checked, shown, begun anew and written as CSV; no folder, no user, and an
--- unknown word. Keys: new ones, a renewed one, and without a file. Others: no word, no user, an unknown subcommand, and
+-- unknown word. Keys: new ones, a renewed one, and without a file. Gradings: submissions, all options, and no exercise.
+-- Others: no word, no user, an unknown subcommand, and
 -- calls for help and for the version.
 abbrev no_limits : LimitWords
 no_limits = record {
@@ -722,6 +810,30 @@ no_file :
     faults_of (asked (codes "keys" ∷ codes "ann" ∷ [])) ≡ kind.MissingRequiredArgument ∷ []
 unfolding walked walk_fault defaults_fault
 no_file = refl
+
+submissions :
+    users_of (asked (codes "grade" ∷ codes "sort.md" ∷ codes "ann.nesl" ∷ codes "bob.nesl" ∷ []))
+    ≡ codes "ann.nesl" ∷ codes "bob.nesl" ∷ []
+unfolding walked
+submissions = refl
+
+graded_in_full :
+    task_of
+    (asked (codes "grade" ∷ codes "--csv" ∷ codes "sort.md" ∷ codes "--html=pages" ∷ codes "--jobs" ∷ codes "4"
+    ∷ codes "--try" ∷ []))
+    ≡ a_grading (record {
+      exercise = Some (codes "sort.md");
+      report = as_csv;
+      html = Some (codes "pages");
+      jobs = Some 4;
+      is_try = true;
+    })
+unfolding walked
+graded_in_full = refl
+
+no_exercise : faults_of (asked (codes "grade" ∷ [])) ≡ kind.MissingRequiredArgument ∷ []
+unfolding walked walk_fault defaults_fault
+no_exercise = refl
 
 unknown : faults_of (asked (codes "listen" ∷ [])) ≡ kind.UnknownArgument ∷ kind.InvalidSubcommand ∷ []
 unfolding walked walk_fault defaults_fault

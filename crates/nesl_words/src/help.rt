@@ -322,6 +322,48 @@ gives with its port, and signs in.
 Exit status: 0 if the file was written, 1 if that or a device failed, 2 if the
 words or the users' names are wrong.";
 
+pub(crate) const GRADE: &str = "Grades submissions by an exercise";
+
+pub(crate) const GRADE_CSV: &str = "Writes CSV: a row for each test of each submission";
+
+pub(crate) const GRADE_JSON: &str = "Writes JSON: an object for each submission";
+
+pub(crate) const GRADE_JUNIT: &str = "Writes XML as JUnit does: a suite for each submission";
+
+pub(crate) const GRADE_HTML: &str =
+    "Writes a page for each submission into this new folder, and index.html";
+
+pub(crate) const GRADE_JOBS: &str = "The number of threads, 1 to 64 (1 if not given)";
+
+pub(crate) const GRADE_TRY: &str = "Grades the exercise's own solution, too";
+
+pub(crate) const GRADE_EXERCISE: &str = "The exercise: a Markdown file with tests";
+
+pub(crate) const GRADE_SUBMISSIONS: &str = "Files with definitions, or folders of such files";
+
+pub(crate) const GRADE_EXAMPLE: &str =
+    "For example: pazkindu grade lessons/exercises/quicksort.md submissions";
+
+pub(crate) const GRADE_AFTER: &str = "\
+It prints the points of each submission, and below them each test that isn't
+passed, as
+
+    ann.nesl  15 of 15
+    bob.nesl  9 of 15
+
+    bob.nesl
+      line 14: n = 128: 102282 is above 69180
+
+Each test of a submission has a session of its own. It gets what the exercise
+gives, then the submission, then the test. docs/GRADING.md describes how
+exercises are written.
+
+For example: pazkindu grade lessons/exercises/quicksort.md submissions
+
+Exit status: 0 if all submissions were graded, whatever their points, 1 if a
+file can't be read, the exercise is wrong, or a device or memory failed, 2 if
+the words are wrong.";
+
 pub(crate) const PROGRAM_AFTER: &str = "\
 `pazkindu repl` opens a session to try things in. For others, with one user
 whose name is ann,

@@ -19,6 +19,7 @@ ghost use Rattle.nesl_words.specs.Words.{users_rule, web_host_rule, web_rule};
 ghost use Rattle.nesl_words.specs.Words.{without_subcommands, workers_rule};
 ghost use Rattle.nesl_words.specs.Wanted.{keys_wanted, limits_wanted, service_wanted, task_wanted, users_wanted};
 
+use crate::grade_words::{Grading, grade, grading_found};
 use crate::help;
 use crate::keep_words::{Keep, keep_command, keep_listed, word_named};
 use clap::builder::ValueParser;
@@ -85,6 +86,8 @@ pub enum Task<'a> {
     },
     /// A look at kept sessions, of the one user that is named or of all.
     Keep(Keep<'a>),
+    /// A grading. Its submissions are the users.
+    Grade(Grading<'a>),
 }
 
 /// The options of `serve`. `workers` is the number of helpers, and `connections` the number of connections after which
@@ -136,7 +139,7 @@ pub struct NewKeys<'a> {
     pub page: Option<&'a str>,
 }
 
-/// What the command line asks for, and for which users, in order.
+/// What the command line asks for, and for which users, in order. Those of a grading are its submissions.
 #[derive(Drop)]
 pub struct Wanted<'a> {
     pub users: Vec<&'a str>,
@@ -194,6 +197,7 @@ pub fn example(words: &[&str]) -> &'static str {
         Some(word) if *word == "repl" => help::REPL_EXAMPLE,
         Some(word) if *word == "keys" => help::KEYS_EXAMPLE,
         Some(word) if *word == "keep" => help::KEPT_EXAMPLE,
+        Some(word) if *word == "grade" => help::GRADE_EXAMPLE,
         _ => help::BATCH_EXAMPLE,
     }
 }
@@ -206,7 +210,8 @@ fn command<'a>(alloc: Global) -> Result<Command<'a>, AllocError>
     let with_serve = with_subcommand(with_batch, serve(alloc));
     let with_repl = with_subcommand(with_serve, repl(alloc));
     let with_keys = with_subcommand(with_repl, keys(alloc));
-    with_subcommand(with_keys, keep_listed(alloc))
+    let with_keep = with_subcommand(with_keys, keep_listed(alloc));
+    with_subcommand(with_keep, grade(alloc))
 }
 
 // The program without its subcommands.
@@ -585,8 +590,8 @@ fn further_users<'a>(alloc: Global) -> Arg<'a>
     user(alloc).required(false)
 }
 
-// An option with a number from `least` to `most`, at most once.
-fn number<'a>(
+/// An option with a number from `least` to `most`, at most once.
+pub(crate) fn number<'a>(
     alloc: Global,
     name: &'a str,
     long: &'a str,
@@ -604,8 +609,8 @@ fn number<'a>(
         .action(ArgAction::Set)
 }
 
-// An option with a text, at most once.
-fn text<'a>(alloc: Global, name: &'a str, long: &'a str, help: &'a str) -> Arg<'a>
+/// An option with a text, at most once.
+pub(crate) fn text<'a>(alloc: Global, name: &'a str, long: &'a str, help: &'a str) -> Arg<'a>
     ensures rule { rule_of result ≡ text_rule name.now long.now }
     ensures local { result.global ≡ false }
 {
@@ -650,6 +655,9 @@ fn task_found<'a>(name: &str, matches: &ArgMatches<'a>) -> Task<'a>
     }
     if name == "keys" {
         return Task::Keys(keys_found(matches));
+    }
+    if name == "grade" {
+        return Task::Grade(grading_found(matches));
     }
     match word_named(name) {
         Some(word) => Task::Keep(Keep {
@@ -718,7 +726,7 @@ fn keys_found<'a>(matches: &ArgMatches<'a>) -> NewKeys<'a>
     }
 }
 
-fn number_option(matches: &ArgMatches<'_>, name: &str) -> Option<usize>
+pub(crate) fn number_option(matches: &ArgMatches<'_>, name: &str) -> Option<usize>
     ensures { result ≡ number_among name.now (rows_of (found_of matches.now)) }
 {
     matches.get_one(name)
@@ -730,7 +738,7 @@ pub(crate) fn text_option<'a>(matches: &ArgMatches<'a>, name: &str) -> Option<&'
     matches.get_str(name)
 }
 
-fn has_flag(matches: &ArgMatches<'_>, name: &str) -> bool
+pub(crate) fn has_flag(matches: &ArgMatches<'_>, name: &str) -> bool
     ensures { result ≡ is_among name.now (rows_of (found_of matches.now)) }
 {
     match matches.get_strs(name) {
