@@ -22,11 +22,14 @@ from lib import Failed, demand, free_port  # noqa: E402
 UNIT = "/usr/lib/systemd/system/pazkindu@.service"
 SESSIONS = "/var/lib/pazkindu/sessions"
 NOBODY = 65534
-INCLUDED = "systemd,systemd-sysv,man-db,iproute2"
+INCLUDED = "systemd,systemd-sysv,man-db,iproute2,python3,haproxy,procps"
+# Limits that are said by hand come before those that the generator makes of the machine's memory.
+LIMITS = "etc/systemd/system/pazkindu@.service.d/90-check.conf"
+LIMITED = "[Service]\nLimitAS=4000000K\nMemoryMax=5G\n"
 MIRROR = "http://deb.debian.org/debian"
 SECONDS = 20
 # What a Debian keeps of its own accord, whatever is installed or removed.
-CHANGING = re.compile(r"(proc|sys|dev|run|tmp|root|srv|(etc|var)/\.updated|var/(lib/(dpkg|systemd)|cache|log|tmp))/")
+CHANGING = re.compile(r"(proc|sys|dev|run|tmp|root|srv|(etc|var)/\.updated|var/(lib/(dpkg|haproxy|systemd)|cache|log|tmp))/")
 
 
 def said(words, data=b"", may_fail=False):
@@ -99,9 +102,10 @@ class Debian(Bare):
 # The unit as it is, for what runs it without systemd.
 
 def service(place):
-    """The rows of the unit's [Service], each key with its values."""
+    """The rows of the unit's [Service], each key with its values, with the limits that are said by hand."""
     rows = {}
     text = Path(f"{place.folder}{UNIT}").read_text().split("[Service]")[1].split("[Install]")[0]
+    text = re.sub("(?m)^(LimitAS|MemoryMax)=.*$", "", text).replace("\\\n", "") + LIMITED.split("\n", 1)[1]
     for line in text.splitlines():
         if line and not line.startswith("#"):
             key, value = line.split("=", 1)
@@ -112,8 +116,8 @@ def service(place):
 def settings(place, name):
     """What the unit's lines and the file of a server say, as systemd takes them."""
     found = [pair.replace("%i", name) for line in service(place)["Environment"] for pair in shlex.split(line)]
-    found += [line for line in Path(f"{place.folder}/etc/pazkindu/{name}.conf").read_text().splitlines()
-              if re.match(r"[A-Z_]+=", line)]
+    for path in sorted(Path(f"{place.folder}/etc/pazkindu/{name}.d").glob("*.conf")):
+        found += [line for line in path.read_text().splitlines() if re.match(r"[A-Z_]+=", line)]
     return dict(pair.split("=", 1) for pair in found)
 
 
@@ -122,10 +126,10 @@ def command(place, name):
     the place."""
     values, out = settings(place, name), []
     for word in service(place)["ExecStart"][0].split():
-        if re.fullmatch(r"\$[A-Z]+", word):
+        if re.fullmatch(r"\$[A-Z_]+", word):
             out += values[word[1:]].split()
         else:
-            out.append(re.sub(r"\$\{([A-Z]+)\}", lambda found: values[found[1]], word))
+            out.append(re.sub(r"\$\{([A-Z_]+)\}", lambda found: values[found[1]], word))
     return [f"{place.folder}{out[0]}", *(f"{place.folder}{word}" if word.startswith(SESSIONS) else word
                                          for word in out[1:])]
 
@@ -151,12 +155,21 @@ class Keeper:
         return said(words, **how)
 
     def configure(self, name, users, **values):
-        """Writes the file of a server, and answers its port."""
-        port = free_port()
-        rows = {"USERS": " ".join(users), "PORT": port, **values}
-        Path(f"{self.place.folder}/etc/pazkindu/{name}.conf").write_text(
-            "".join(f"{key}={value}\n" for key, value in rows.items()))
+        """Writes the roster and the settings of a server, and answers its port."""
+        port, folder = free_port(), self.configured(name)
+        shutil.rmtree(folder, ignore_errors=True)
+        folder.mkdir(parents=True)
+        (folder / "users").write_text("".join(f"{user}\n" for user in users))
+        rows = {"PORT": port, **values}
+        (folder / "check.conf").write_text("".join(f"{key}={value}\n" for key, value in rows.items()))
+        if not isinstance(self, Booted):
+            with open(folder / "check.conf", "a", encoding="ascii") as file:
+                file.write(f"USERS=--users {folder}/users\n")
         return port
+
+    def configured(self, name):
+        """Where the roster and the settings of a server are, as this machine sees them."""
+        return Path(f"{self.place.folder}/etc/pazkindu/{name}.d")
 
     def sessions(self, name):
         """Where the sessions of a server are, as this machine sees them."""
@@ -280,11 +293,11 @@ class Transient(Managed):
         for key, values in rows.items():
             for value in values:
                 if key == "EnvironmentFile":
-                    value = f"{self.place.folder}/etc/pazkindu/{name}.conf"
+                    value = f"-{self.configured(name)}/*.conf"
                 if "KEEP=" in value:
                     value = "KEEP="
                 value = value.replace("%i", self.unit(name))
-                if key not in ("ExecStart", "StateDirectory", "StateDirectoryMode"):
+                if key not in ("ExecStart", "ExecStartPre", "ExecStopPost", "StateDirectory", "StateDirectoryMode"):
                     lines.append(f"--property={key}={value}")
         words = rows["ExecStart"][0].split()
         self.run("systemd-run", "--quiet", f"--unit={self.unit(name)}", *lines, f"{self.place.folder}{words[0]}",
@@ -301,6 +314,9 @@ class Booted(Managed):
         self.name = f"pazkindu-check-{os.getpid()}"
 
     def __enter__(self):
+        limits = Path(self.place.folder) / LIMITS
+        limits.parent.mkdir(parents=True, exist_ok=True)
+        limits.write_text(LIMITED)
         words = ["systemd-nspawn", "--quiet", "--boot", "--console=pipe", f"--machine={self.name}",
                  f"--directory={self.place.folder}"]
         apart = not Path("/run/systemd/system").is_dir()

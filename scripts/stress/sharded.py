@@ -52,12 +52,16 @@ class Shard(Process):
     """One process, started by the words and the limit of its unit as systemd would."""
 
     def __init__(self, folder, number):
-        conf = (folder / f"{number}.conf").read_text(encoding="ascii")
-        self.own, self.number = dict(line.split("=", 1) for line in conf.splitlines()), number
-        self.users = self.own["USERS"].split()
-        unit = (folder / "pazkindu@.service").read_text(encoding="ascii")
-        rows = dict(line.split("=", 1) for line in unit.splitlines() if "=" in line)
+        unit = (folder / "pazkindu@.service").read_text(encoding="ascii").replace("\\\n", "")
+        rows = [line.split("=", 1) for line in unit.splitlines() if re.match("[A-Z][A-Za-z]+=", line)]
+        pairs = [pair for key, value in rows if key == "Environment" for pair in shlex.split(value)]
+        for path in sorted((folder / f"{number}.d").glob("*.conf")):
+            pairs += [line for line in path.read_text(encoding="ascii").splitlines() if re.match("[A-Z_]+=", line)]
+        self.own, self.number, rows = dict(pair.split("=", 1) for pair in pairs), number, dict(rows)
+        self.users = (folder / f"{number}.d" / "users").read_text(encoding="ascii").split()
         words = [word for given in shlex.split(rows["ExecStart"]) for word in self.expanded(given)]
+        if "--control" in words:  # its folder is made by systemd
+            del words[words.index("--control"):words.index("--control") + 2]
         self.errors = tempfile.TemporaryFile()
         limit = int(rows["LimitAS"][:-1]) * UNITS[rows["LimitAS"][-1]]
         self.run = started(words, limits={"AS": limit}, stderr=self.errors)
@@ -65,10 +69,10 @@ class Shard(Process):
 
     def expanded(self, word):
         """A word of a command line: `$NAME` alone means the words of a setting, `${NAME}` its text, `%i` the number."""
-        if re.fullmatch(r"\$[A-Z]+", word):
+        if re.fullmatch(r"\$[A-Z_]+", word):
             return self.own[word[1:]].split()
         word = word.replace("%i", str(self.number))
-        return [re.sub(r"\$\{([A-Z]+)\}", lambda found: self.own[found[1]], word)]
+        return [re.sub(r"\$\{([A-Z_]+)\}", lambda found: self.own[found[1]], word)]
 
     def must_listen(self):
         if not self.listens():
@@ -110,7 +114,7 @@ class Cluster:
 
     def __enter__(self):
         try:
-            numbers = sorted(int(path.stem) for path in self.folder.glob("*.conf"))
+            numbers = sorted(int(path.stem) for path in self.folder.glob("*.d"))
             self.shards = {number: Shard(self.folder, number) for number in numbers}
             for shard in self.shards.values():
                 shard.must_listen()
