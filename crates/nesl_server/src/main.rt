@@ -189,31 +189,10 @@ fn run_service<
         Ok(text) => text,
         Err(failure) => return report_failure(rt, failure),
     };
-    let served = serve_listed(rt, alloc, offer, text.as_str(), shelf);
-    finish_offer(rt, served)
-}
-
-// Runs the offered service, with the users of a text. The offer and the text have one lifetime, as the offer with all
-// users needs it.
-fn serve_listed<
-    'x,
-    R: Net<Stream = TcpStream, Listener = TcpListener>
-        + Threads
-        + Wait
-        + Clock
-        + Print
-        + Eprint
-        + Storage
-        + Replace
-        + Clone
-        + Drop
-        + Send
-        + Sync
-        + 'static,
-    F: Shelf,
->(rt: &R, alloc: Global, offer: &Offer<'x>, text: &'x str, shelf: &F) -> Result<(), Failure<'x>> {
-    let offer = users::add(alloc, offer, text)?;
-    offer::keep(rt, alloc, &offer, shelf)
+    match users::add(alloc, offer, text) {
+        Ok(offer) => finish_offer(rt, offer::keep(rt, alloc, &offer, shelf)),
+        Err(failure) => report_failure(rt, failure),
+    }
 }
 
 // Prints the text for a command line that is refused, or that asks for help. Memory that ran out is reported like other

@@ -5,22 +5,30 @@ use nesl_cli::run::Offer;
 use nesl_prompt::shelf::Shelf;
 use nesl_service::service::ServeFault;
 use std::alloc::{AllocError, Global};
+use std::str;
 
-/// Returns the text of the file that lists users. It is empty if there is no such file.
+/// Returns the text of the file that lists users. It is empty if there is no such file. The text is never freed: the
+/// process serves these users to its end.
 pub fn read<'a, F: Shelf>(
     alloc: Global,
     offer: &Offer<'a>,
     shelf: &F,
-) -> Result<String, Failure<'a>> {
+) -> Result<&'a str, Failure<'a>> {
     let Some(path) = offer.service.users else {
-        return Ok(String::new(alloc));
+        return Ok("");
     };
     match shelf.read(alloc, path) {
-        Ok(bytes) => match String::from_utf8(bytes) {
-            Ok(text) => Ok(text),
-            Err(_) => Err(Failure::Users(path, UsersRefusal::Encoding)),
-        },
+        Ok(bytes) => text_of(path, bytes),
         Err(fault) => Err(Failure::Users(path, UsersRefusal::File(fault))),
+    }
+}
+
+// Returns the bytes of a file as a text that is never freed.
+fn text_of<'a>(path: &'a str, bytes: Vec<u8>) -> Result<&'a str, Failure<'a>> {
+    let bytes: &'a [u8] = bytes.leak();
+    match str::from_utf8(bytes) {
+        Ok(text) => Ok(text),
+        Err(_) => Err(Failure::Users(path, UsersRefusal::Encoding)),
     }
 }
 
