@@ -114,8 +114,8 @@ those that begin with #";
 
 pub(crate) const CHECK: &str = "\
 Reads the words, the users and the keys, and
-locks the folder of --keep; then it ends, and
-nothing is served";
+locks the folder of --keep; then it ends,
+and nothing is served";
 
 pub(crate) const REPL: &str = "\
 Opens a session of one's own, with a prompt, help, and hints below
