@@ -21,27 +21,27 @@ near low high (e ∷ es) = if begins_near low high e.0 then e ∷ near low high 
 module _ {X : Type 0} (low high b : ℕ) (bs : List ℕ) (is : is_near low high b ≡ true) where
   -- another letter
   apart : (c : ℕ) (cs : List ℕ) (v : X) (es : List (List ℕ × X)) → is_near low high c ≡ false →
-      look_up (b ∷ bs) es ≡ look_up (b ∷ bs) (near low high es) → (r : Bool) → nat_eq b c ≡ r →
-      (if r && bytes_eq bs cs then Some v else look_up (b ∷ bs) es) ≡ look_up (b ∷ bs) (near low high es)
+      look_up es (b ∷ bs) ≡ look_up (near low high es) (b ∷ bs) → (r : Bool) → nat_eq b c ≡ r →
+      (if r && bytes_eq bs cs then Some v else look_up es (b ∷ bs)) ≡ look_up (near low high es) (b ∷ bs)
   apart c cs v es out same true q =
       absurd (true≢false (sym is ∙ ap (is_near low high) (eqb-true b c q) ∙ out))
   apart c cs v es out same false q = same
 
   one : (c : ℕ) (cs : List ℕ) (v : X) (es : List (List ℕ × X)) →
-      look_up (b ∷ bs) es ≡ look_up (b ∷ bs) (near low high es) → (r : Bool) → is_near low high c ≡ r →
-      look_up (b ∷ bs) ((c ∷ cs, v) ∷ es)
-      ≡ look_up (b ∷ bs) (if r then (c ∷ cs, v) ∷ near low high es else near low high es)
+      look_up es (b ∷ bs) ≡ look_up (near low high es) (b ∷ bs) → (r : Bool) → is_near low high c ≡ r →
+      look_up ((c ∷ cs, v) ∷ es) (b ∷ bs)
+      ≡ look_up (if r then (c ∷ cs, v) ∷ near low high es else near low high es) (b ∷ bs)
   one c cs v es same true q = ap (λ t. if bytes_eq (b ∷ bs) (c ∷ cs) then Some v else t) same
   one c cs v es same false q = apart c cs v es q same (nat_eq b c) refl
 
-  pub found_near : (es : List (List ℕ × X)) → look_up (b ∷ bs) es ≡ look_up (b ∷ bs) (near low high es)
+  pub found_near : (es : List (List ℕ × X)) → look_up es (b ∷ bs) ≡ look_up (near low high es) (b ∷ bs)
   found_near [] = refl
   found_near (([], v) ∷ es) = found_near es
   found_near ((c ∷ cs, v) ∷ es) = one c cs v es (found_near es) (is_near low high c) refl
 
 -- a name whose first bytes are known
 pub begun : {X : Type 0} (low high b : ℕ) (bs : List ℕ) (es : List (List ℕ × X)) → low ≤ b → b < high →
-    look_up (b ∷ bs) es ≡ look_up (b ∷ bs) (near low high es)
+    look_up es (b ∷ bs) ≡ look_up (near low high es) (b ∷ bs)
 begun low high b bs es from to =
     let above : not (nat_lt b low) ≡ true = not_from_false (nat_lt b low) (le-ltb b low from) in
     found_near low high b bs (and_from (nat_lt b high) (not (nat_lt b low)) (lt-ltb b high to) above) es

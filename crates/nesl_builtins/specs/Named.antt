@@ -35,6 +35,11 @@ infix_builtin ops.Times = OfTwo binary.Multiply
 infix_builtin ops.Divide = OfTwo binary.Divide
 infix_builtin ops.Read = OfSequences seq.Gather
 
+-- what the first of these names means
+abbrev pub look_up : {X : Type 0} → List (List ℕ × X) → List ℕ → Option X
+look_up [] x = None
+look_up (e ∷ es) x = if bytes_eq x e.0 then Some e.1 else look_up es x
+
 -- the built-ins that are called by a name
 abbrev pub builtins : List (List ℕ × Builtin)
 builtins =
@@ -62,9 +67,5 @@ builtins =
     (codes "unzip", OfSequences seq.Unzip) ∷ (codes "permute", OfSequences seq.Permute) ∷
     (codes "rep", OfSequences seq.Rep) ∷ (codes "eql", OfSequences seq.Eql) ∷ []
 
-abbrev pub look_up : {X : Type 0} → List ℕ → List (List ℕ × X) → Option X
-look_up x [] = None
-look_up x (e ∷ es) = if bytes_eq x e.0 then Some e.1 else look_up x es
-
 unfoldable pub builtin_named : List ℕ → Option Builtin
-builtin_named x = look_up x builtins
+builtin_named x = look_up builtins x

@@ -86,7 +86,7 @@ const TO_Z: [(&[u8], Builtin); 6] = [
 
 /// What the table has beside the name.
 fn entry(mut table: &[(&[u8], Builtin)], name: &[u8]) -> Option<Builtin>
-    ensures { result ≡ look_up name.now (map (λ e. (e.0.now, e.1)) table.entry.now) }
+    ensures { result ≡ look_up (map (λ e. (e.0.now, e.1)) table.entry.now) name.now }
 {
     while let [(known, builtin), rest @ ..] = table {
         if name == *known {
@@ -100,7 +100,7 @@ fn entry(mut table: &[(&[u8], Builtin)], name: &[u8]) -> Option<Builtin>
 /// The built-in functions whose names begin with letters near this one, so that few names are gone over.
 fn names_near(first: u8) -> &'static [(&'static [u8], Builtin)]
     ensures { (rest : List ℕ) → builtin_named (first ∷ rest)
-        ≡ look_up (first ∷ rest) (map (λ e. (e.0.now, e.1)) result.now) }
+        ≡ look_up (map (λ e. (e.0.now, e.1)) result.now) (first ∷ rest) }
 {
     if first < b'm' {
         if first < b'd' { &TO_C } else { &TO_L }

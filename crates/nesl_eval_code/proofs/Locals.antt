@@ -5,7 +5,8 @@ use Rattle.nesl_syntax_tree.specs.Trees.{PatternTree, pattern, name_pattern, pai
 use Rattle.nesl_values.specs.Parts.{as_pair, as_tagged}
 use Rattle.nesl_eval_code.specs.declared.code.Step.{Step}
 use Rattle.nesl_eval_code.specs.declared.code.Step.TheVariants.{Left, Right, Inside}
-use Rattle.nesl_eval_meaning.specs.Names.{Name, Value, Locals, Scope, with_names, look_up, bound}
+use Rattle.nesl_eval_meaning.specs.Names.{Name, Value, Locals, Scope, with_names, bound}
+use Rattle.nesl_builtins.specs.Named.{look_up}
 use Rattle.nesl_eval_code.specs.Frames.{followed, local_at, frame}
 use Rattle.nesl_eval_code.specs.Means.{Layer, bindings, binders, bound_all, layered, binds, steps_to, last_binding, or_later, Spot, spot, patterns_of, IsSpotOf, IsNoLocal, IsElementSpot, with_element}
 

@@ -1,5 +1,5 @@
 -- The code of a node means the node, where the codes of its parts mean its parts.
-use Rattle.std.proofs.Common.{◌≡◌, ℕ, zero, suc, refl, sym, ◌∙◌, ap, subst, List, map, Some, None, Bool, min, ℤ, pos}
+use Rattle.std.proofs.Common.{◌≡◌, ℕ, zero, suc, refl, sym, ◌∙◌, ap, subst, List, map, Some, None, Bool, ℤ}
 use Rattle.std.proofs.Common.{Vec, Box, Global}
 use Rattle.std.specs.Prelude.{length}
 use Rattle.nesl_lex.specs.declared.token.Span.{Span}
@@ -13,14 +13,14 @@ use Rattle.nesl_scalars.specs.declared.trap.Trap.TheVariants.{Deep}
 use Rattle.nesl_seqs_base.specs.declared.seq_fn.SeqFn.TheVariants as seq
 use Rattle.nesl_builtins.specs.declared.builtin.Builtin.{Builtin}
 use Rattle.nesl_builtins.specs.declared.builtin.Builtin.TheVariants.{OfSequences}
-use Rattle.nesl_builtins.specs.Named.{builtin_named, infix_builtin, prefix_builtin}
+use Rattle.nesl_builtins.specs.Named.{builtin_named, infix_builtin, prefix_builtin, look_up}
 use Rattle.nesl_eval_code.specs.declared.code.Code.{Code, the_lemmas}
 use Rattle.nesl_eval_code.specs.declared.code.Code as code
 use Rattle.nesl_eval_code.specs.declared.code.Step.{Step}
-use Rattle.nesl_eval_meaning.specs.Names.{Name, Value, Scope, Environment, look_up}
+use Rattle.nesl_eval_meaning.specs.Names.{Name, Value, Scope, Environment}
 use Rattle.nesl_eval_code.specs.Frames.{Frames, local_at}
 use Rattle.nesl_eval_meaning.specs.Out.{Out, value, fault, given}
-use Rattle.nesl_eval_meaning.specs.Outcome.{out, node_of, greatest_number, two_parts, variable_in, call_name}
+use Rattle.nesl_eval_meaning.specs.Outcome.{out, node_of, denoted, two_parts, variable_in, call_name}
 use Rattle.nesl_eval_meaning.specs.Outcome.{apply_builtin, small_enough}
 use Rattle.nesl_eval_code.specs.Run.{Table, run, run_node, run_top, run_called, run_two, code_span, slot_at}
 use Rattle.nesl_eval_code.specs.Means.{Agrees, Means, Layer, FramesShow, IsTableOf, Begins, place_of, Spot, IsSpotOf, IsNoLocal, IsElementSpot}
@@ -40,7 +40,7 @@ module _ (names : List Name) (ls : List Layer) where
   node_means c e s h (suc n) t env b at fs sc sh = agrees_added 1 1 _ _ (h n t env b at fs sc sh)
 
   -- leaves
-  pub means_number : (s : Span) (n : ℕ) (z : ℤ) → z ≡ pos (min n greatest_number) → Means names ls (code.Number s z) (node s (trees.number n))
+  pub means_number : (s : Span) (n : ℕ) (z : ℤ) → z ≡ denoted n → Means names ls (code.Number s z) (node s (trees.number n))
   means_number s n z e = node_means _ _ refl (λ m t env b at fs sc sh n. ap (λ y. value (values.int y) 0 0) e)
 
   pub means_truth : (s : Span) (q : Bool) → Means names ls (code.Truth s q) (node s (trees.truth q))

@@ -8,7 +8,8 @@ use Rattle.nesl_values.specs.Tree as values
 use Rattle.nesl_values.specs.Parts.{as_bool, elements}
 use Rattle.nesl_builtins.specs.declared.builtin.Builtin.{Builtin}
 use Rattle.nesl_eval_code.specs.declared.code.Code.{Code, Number, Truth, Character, Text, Local, Top, Named, Pair', Apply', ApplyTwo', ApplyThree', Call', CallNamed', Choice', Sequence', Empty, Let', Each', FilteredEach', Row_of-Code, end_of-Code, more_of-Code, items-the_row-Code}
-use Rattle.nesl_eval_meaning.specs.Names.{Value, look_up}
+use Rattle.nesl_eval_meaning.specs.Names.{Value}
+use Rattle.nesl_builtins.specs.Named.{look_up}
 use Rattle.nesl_eval_meaning.specs.Out.{Out, value, and_then, given}
 use Rattle.nesl_eval_meaning.specs.Outcome.{small_enough, apply_builtin, branch, common_places, lengths, place_if_true}
 use Rattle.nesl_eval_meaning.specs.Outcome.{body_value}

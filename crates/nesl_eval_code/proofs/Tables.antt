@@ -3,7 +3,8 @@ use Rattle.std.proofs.Common.{◌≡◌, ℕ, suc, refl, ◌∙◌, ap, subst, a
 use Rattle.std.specs.Prelude.{option_map, if◌then◌else◌}
 use Rattle.std.specs.Str.{bytes_eq}
 use Rattle.nesl_lex.specs.declared.token.Span.{Span}
-use Rattle.nesl_eval_meaning.specs.Names.{Name, Value, Environment, Top, variable_of, function_of, datatype_of, nothing, look_up}
+use Rattle.nesl_eval_meaning.specs.Names.{Name, Value, Environment, Top, variable_of, function_of, datatype_of, nothing}
+use Rattle.nesl_builtins.specs.Named.{look_up}
 use Rattle.nesl_eval_meaning.specs.Out.{stuck}
 use Rattle.nesl_eval_meaning.specs.Outcome.{variable_in, call_name, out}
 use Rattle.nesl_eval_code.specs.Run.{Table, Slot, variable_slot, function_slot, datatype_slot, nothing_slot, slot_at, run_top, run_called, run}

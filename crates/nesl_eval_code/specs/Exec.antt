@@ -5,7 +5,8 @@ use Rattle.nesl_lex.specs.declared.token.Span.{Span}
 use Rattle.nesl_values.specs.Tree as values
 use Rattle.nesl_values.specs.Parts.{as_bool}
 use Rattle.nesl_scalars.specs.declared.trap.Trap.TheVariants.{Deep}
-use Rattle.nesl_eval_meaning.specs.Names.{Value, look_up}
+use Rattle.nesl_eval_meaning.specs.Names.{Value}
+use Rattle.nesl_builtins.specs.Named.{look_up}
 use Rattle.nesl_eval_meaning.specs.Out.{Out, value, fault, stuck, and_then, given, all_beside}
 use Rattle.nesl_eval_meaning.specs.Outcome.{small_enough, apply_builtin, branch, common_places, lengths, place_if_true}
 use Rattle.nesl_eval_meaning.specs.Outcome.{body_value}

@@ -8,7 +8,8 @@ use Rattle.nesl_syntax_tree.specs.Trees.{record_pattern, none, more, no_binders,
 use Rattle.nesl_eval_code.specs.declared.code.Code.{Code}
 use Rattle.nesl_eval_code.specs.declared.code.Step.{Step}
 use Rattle.nesl_eval_code.specs.declared.code.Step.TheVariants.{Left, Right, Inside}
-use Rattle.nesl_eval_meaning.specs.Names.{Name, Value, Locals, Scope, outside, with_names, Environment, Top, look_up}
+use Rattle.nesl_eval_meaning.specs.Names.{Name, Value, Locals, Scope, outside, with_names, Environment, Top}
+use Rattle.nesl_builtins.specs.Named.{look_up}
 use Rattle.nesl_eval_meaning.specs.Names.{bound}
 use Rattle.nesl_eval_meaning.specs.Names.{variable_of, function_of, datatype_of, nothing}
 use Rattle.nesl_eval_meaning.specs.Out.{Out, stuck}

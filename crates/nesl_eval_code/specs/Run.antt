@@ -9,7 +9,8 @@ use Rattle.nesl_eval_code.specs.declared.code.Code.{Apply'}
 use Rattle.nesl_eval_code.specs.declared.code.Code.{ApplyTwo', ApplyThree', Call', CallNamed', Choice', Sequence'}
 use Rattle.nesl_eval_code.specs.declared.code.Code.{Empty}
 use Rattle.nesl_eval_code.specs.declared.code.Code.{Let', Each', FilteredEach', items-the_row-Code}
-use Rattle.nesl_eval_meaning.specs.Names.{Name, Value, look_up}
+use Rattle.nesl_eval_meaning.specs.Names.{Name, Value}
+use Rattle.nesl_builtins.specs.Named.{look_up}
 use Rattle.nesl_eval_code.specs.Frames.{Frames, local_at, frame, row}
 use Rattle.nesl_eval_meaning.specs.Out.{Out, value, fault, stuck, after_cost, and_then, given, at_call, all_beside}
 use Rattle.nesl_eval_meaning.specs.Outcome.{small_enough, apply_builtin, branch, common_places, lengths, place_if_true}

@@ -1,11 +1,11 @@
 //! Preparing expressions: their names are resolved.
 
-ghost use Rattle.std.specs.Prelude.{◌≡◌, ◌∷◌, ◌++◌, [], IfOk, OnOk, pos, min, List, length};
+ghost use Rattle.std.specs.Prelude.{◌≡◌, ◌∷◌, ◌++◌, [], IfOk, OnOk, List, length};
 ghost use Rattle.std.proofs.Common.{Box, Global as Heap};
 ghost use Rattle.nesl_syntax_tree.specs.Trees.{Tree, node, text, variable, call, element, pair, choice, strided_range};
 ghost use Rattle.nesl_syntax_tree.specs.Trees.{prefix_of, sequence, let_in, each, filtered_each};
 ghost use Rattle.nesl_syntax_tree.specs.Views.{tree_of, trees_in, binders_in, pattern_tree};
-ghost use Rattle.nesl_eval_meaning.specs.Outcome.{greatest_number, sources};
+ghost use Rattle.nesl_eval_meaning.specs.Outcome.{denoted, sources};
 ghost use Rattle.nesl_eval_code.specs.declared.code.Code.{Code, ApplyTwo};
 ghost use Rattle.nesl_eval_code.specs.Means.{Means, AllMean, BindingsMean, Layer, bindings as layer};
 ghost use Rattle.nesl_eval_code.specs.Resolving.{layers_of, known};
@@ -430,7 +430,7 @@ pub fn code_of_body(
 
 /// A number that a tree holds; one beyond the greatest is taken as the greatest.
 fn number(value: u64) -> i64
-    ensures { result ≡ pos (min value greatest_number) }
+    ensures { result ≡ denoted value }
 {
     if value <= i64::MAX as u64 {
         value as i64

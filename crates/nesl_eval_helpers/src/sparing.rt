@@ -30,10 +30,14 @@ const WORK_OF_MICROSECOND: u64 = 80;
 /// in columns have none. Neither have uneven ones, whose smaller half has less than an eighth of the elements: the
 /// better cut is inside their larger half.
 ///
-/// After helpers didn't make an outer interval faster, those of its kind have none for 4 times as long as it took. If
-/// that happens again the multiple doubles, up to 64. The reason may be that other programs use the processors, or that
-/// the halves wait for each other. The multiple is halved after an interval that was faster. One of 32 intervals has no
-/// helpers from its start, so that the time without them stays known.
+/// Helpers pay for an outer interval if they save at least a sixteenth of its time. What they lose is counted for each
+/// kind, and what they save is subtracted. A kind rests after it has lost 8 milliseconds, or half of one interval's
+/// time: it has no helpers for 16 times as long as it lost, the next time for 32 times, and then for 64 times. The
+/// multiple is halved after an interval for which they paid. The reason for a loss may be that other programs use the
+/// processors, or that the halves wait for each other. Another is that the system starts a thread on its maker's
+/// processor, and moves it to a free one only after many intervals in a row. That costs little for each of them, and
+/// therefore a kind doesn't rest after the first ones. One of 32 intervals has no helpers from its start, so that the
+/// time without them stays known.
 ///
 /// If the clock can't be read, the time is 0 and no interval takes long.
 #[derive(Drop)]

@@ -19,9 +19,13 @@ const PLACES: usize = 251;
 /// waiting.
 const LEAST_WORK: u64 = 8;
 
-/// After a helper didn't pay, the kind of interval has none for a multiple of the interval's time. This is the first
-/// multiple. It doubles each time, up to `LONGEST_REST`, and is halved after a helper paid.
-const FIRST_REST: u64 = 4;
+/// After helpers lost this many microseconds of a kind of intervals, it has none for a multiple of what they lost. The
+/// system may let a new thread share its maker's processor, and move it only after 60 to 100 milliseconds of them.
+/// Meanwhile an interval takes about a twentieth longer. If it takes much longer, the processors are busy.
+const PATIENCE: u64 = 8000;
+
+/// The first such multiple. It doubles each time, up to `LONGEST_REST`, and is halved after a helper paid.
+const FIRST_REST: u64 = 16;
 
 const LONGEST_REST: u64 = 64;
 
@@ -70,6 +74,8 @@ struct Seen {
     before: AtomicU64,
     // The number of those that could have had a helper.
     helped: AtomicU64,
+    // The microseconds that helpers lost since the last rest, without those that they saved.
+    lost: AtomicU64,
     // The microsecond until which they have no helpers, and the multiple for the next such time.
     until: AtomicU64,
     rest: AtomicU64,
@@ -82,6 +88,7 @@ impl Seen {
             last: AtomicU64::new(0),
             before: AtomicU64::new(0),
             helped: AtomicU64::new(0),
+            lost: AtomicU64::new(0),
             until: AtomicU64::new(0),
             rest: AtomicU64::new(FIRST_REST),
         }
@@ -95,6 +102,7 @@ impl Seen {
     fn take(&self, kind: u64) {
         if !self.is_of(kind) {
             self.last.store(0, Ordering::Relaxed);
+            self.lost.store(0, Ordering::Relaxed);
             self.until.store(0, Ordering::Relaxed);
             self.rest.store(FIRST_REST, Ordering::Relaxed);
             self.kind.store(kind, Ordering::Relaxed);
@@ -113,17 +121,30 @@ impl Seen {
         self.last.store(rate, Ordering::Relaxed);
     }
 
-    // Notes that a helper didn't pay. `micros` is the interval's time, and `now` its end.
-    fn begin_rest(&self, micros: u64, now: u64) {
+    // Notes the microseconds that helpers lost of an interval, which ends now. A rest begins at once after they lost
+    // half of its expected time.
+    fn note_lost(&self, micros: u64, expected: u64, now: u64) {
+        let lost = self.lost.load(Ordering::Relaxed).saturating_add(micros);
+        if lost < PATIENCE && micros < expected / 2 {
+            self.lost.store(lost, Ordering::Relaxed);
+        } else {
+            self.begin_rest(lost, now);
+        }
+    }
+
+    fn begin_rest(&self, lost: u64, now: u64) {
         let rest = self.rest.load(Ordering::Relaxed);
-        let until = now.saturating_add(micros.saturating_mul(rest));
+        let until = now.saturating_add(lost.saturating_mul(rest));
         self.until.store(until, Ordering::Relaxed);
         let next = rest.saturating_mul(2).min(LONGEST_REST);
         self.rest.store(next, Ordering::Relaxed);
+        self.lost.store(0, Ordering::Relaxed);
     }
 
-    // Notes that a helper paid.
-    fn shorten_rest(&self) {
+    // Notes the microseconds that helpers saved of an interval.
+    fn note_saved(&self, micros: u64) {
+        let lost = self.lost.load(Ordering::Relaxed).saturating_sub(micros);
+        self.lost.store(lost, Ordering::Relaxed);
         let rest = self.rest.load(Ordering::Relaxed);
         self.rest
             .store((rest / 2).max(FIRST_REST), Ordering::Relaxed);
@@ -193,10 +214,11 @@ impl Timings {
         if !seen.is_of(kind) {
             return;
         }
-        if micros >= part.expected.saturating_sub(part.expected / 16) {
-            seen.begin_rest(micros, now);
-        } else {
-            seen.shorten_rest();
+        // A helper pays where it saves at least a sixteenth.
+        let worth = part.expected.saturating_sub(part.expected / 16);
+        match micros.checked_sub(worth) {
+            Some(lost) => seen.note_lost(lost, part.expected, now),
+            None => seen.note_saved(worth.saturating_sub(micros)),
         }
         seen.bound(rate_of(micros.saturating_mul(threads), part.size));
     }

@@ -15,11 +15,11 @@ use Rattle.nesl_seqs_base.specs.declared.seq_fn.SeqFn.{SeqFn}
 use Rattle.nesl_seqs_base.specs.declared.seq_fn.SeqFn.TheVariants.{Length, ElementAt, Append, Dist, Range, RangeBy, Index, Sum, Any, All, Count, Bottop, Take, Drop, Reverse, Rotate, Zip, Rep, Eql, MaxVal, MinVal, MaxIndex, MinIndex, PlusScan, OrScan, AndScan, Flatten, Unzip, OddElts, EvenElts, Interleave, Gather, Permute, Split, Partition, Write}
 use Rattle.nesl_builtins.specs.declared.builtin.Builtin.{Builtin}
 use Rattle.nesl_builtins.specs.declared.builtin.Builtin.TheVariants.{OfOne, OfTwo, OfSequences}
-use Rattle.nesl_builtins.specs.Named.{builtin_named, prefix_builtin, infix_builtin}
+use Rattle.nesl_builtins.specs.Named.{builtin_named, prefix_builtin, infix_builtin, look_up}
 use Rattle.nesl_seqs_base.specs.declared.seq_fn.SeqFn.TheVariants as seq
 use Rattle.nesl_syntax_tree.specs.Trees.{Tree, Trees, Binders, node, none, more, no_binders, binder}
 use Rattle.nesl_syntax_tree.specs.Trees as trees
-use Rattle.nesl_eval_meaning.specs.Names.{Value, Scope, Environment, Top, variable_of, function_of, datatype_of, nothing, look_up, bound, outside, with_names}
+use Rattle.nesl_eval_meaning.specs.Names.{Value, Scope, Environment, Top, variable_of, function_of, datatype_of, nothing, bound, outside, with_names}
 use Rattle.nesl_eval_meaning.specs.Out.{Out, value, fault, stuck, after_cost, and_then, given, at_call, beside}
 use Rattle.nesl_eval_meaning.specs.Out.{all_beside}
 use Rattle.nesl_eval_meaning.specs.Outcome.{PartOutcomes, out, node_of, small_enough, on_scalars, on_sequence, apply_builtin, variable_in, call_name, branch, two_parts, all_parts, let_of, sources, common_places, lengths, scope_at, out_at, place_if_true, body_value, kept_places, body_values, over_places}

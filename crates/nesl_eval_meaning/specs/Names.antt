@@ -1,6 +1,5 @@
 -- What names mean.
-use Rattle.std.specs.Prelude.{ℕ, List, [], ◌∷◌, Option, Some, None, if◌then◌else◌, option_and_then}
-use Rattle.std.specs.Str.{bytes_eq}
+use Rattle.std.specs.Prelude.{ℕ, List, [], ◌∷◌, Option, Some, None, option_and_then}
 use Rattle.nesl_values.specs.Tree as values
 use Rattle.nesl_values.specs.Parts.{as_pair, as_tagged}
 use Rattle.nesl_syntax_tree.specs.Trees.{PatternTree, pattern, name_pattern, pair_pattern, record_pattern, Tree}
@@ -11,11 +10,6 @@ Value = values.ValueTree
 
 abbrev pub Name : Type 0
 Name = List ℕ
-
--- what the first of these names means
-abbrev pub look_up : {X : Type 0} → List (Name × X) → Name → Option X
-look_up [] x = None
-look_up (b ∷ bs) x = if bytes_eq x b.0 then Some b.1 else look_up bs x
 
 -- local names with their values, the newest first
 abbrev pub Locals : Type 0

@@ -1,7 +1,7 @@
 -- What an expression evaluates to with a number of levels: its value or its fault, with the work and the depth, or
 -- neither. The forms of expressions and what they mean are the NESL report's; works, depths, faults and the limits are
 -- this profile's.
-use Rattle.std.specs.Prelude.{ℕ, zero, suc, ◌+◌, ◌-◌, pos, min, nat_le, Bool, true, false, cond, List, [], ◌∷◌, map}
+use Rattle.std.specs.Prelude.{ℕ, zero, suc, ◌+◌, ◌-◌, ℤ, pos, min, nat_le, Bool, true, false, cond, List, [], ◌∷◌, map}
 use Rattle.std.specs.Prelude.{length, slice_get, Option, Some, None, option_map, option_and_then, ◌==◌, if◌then◌else◌}
 use Rattle.std.specs.List.{range_with_len, list_all}
 use Rattle.nesl_lex.specs.declared.token.Span.{Span}
@@ -18,22 +18,25 @@ use Rattle.nesl_seqs_base.specs.Meaning.{outcome_of}
 use Rattle.nesl_seqs_base.specs.Prices.{reads, depth_of}
 use Rattle.nesl_builtins.specs.declared.builtin.Builtin.{Builtin}
 use Rattle.nesl_builtins.specs.declared.builtin.Builtin.TheVariants.{OfOne, OfTwo, OfSequences}
-use Rattle.nesl_builtins.specs.Named.{builtin_named, infix_builtin, prefix_builtin}
+use Rattle.nesl_builtins.specs.Named.{builtin_named, infix_builtin, prefix_builtin, look_up}
 use Rattle.nesl_syntax_tree.specs.Trees.{PatternTree, Tree, Trees, Binders, node, none, more, no_binders, binder}
 use Rattle.nesl_syntax_tree.specs.Trees.{span_of}
 use Rattle.nesl_syntax_tree.specs.Trees as trees
 use Rattle.nesl_eval_meaning.specs.Names.{Value, Locals, Scope, outside, with_names, Top, variable_of, function_of}
 use Rattle.nesl_eval_meaning.specs.Names.{datatype_of}
-use Rattle.nesl_eval_meaning.specs.Names.{Environment, look_up, bound}
+use Rattle.nesl_eval_meaning.specs.Names.{Environment, bound}
 use Rattle.nesl_eval_meaning.specs.Out.{Out, value, fault, stuck, after_cost, and_then, given, at_call, all_beside}
 
 -- what parts evaluate to, in a scope
 abbrev pub PartOutcomes : Type 0
 PartOutcomes = Scope → Tree → Out Value
 
--- the greatest number. No text has a greater one; where a tree has one, this is meant
 abbrev pub greatest_number : ℕ
 greatest_number = 9223372036854775807
+
+-- the integer that a numeral denotes. No text has one beyond the greatest; a tree that has one denotes the greatest
+abbrev pub denoted : ℕ → ℤ
+denoted n = pos (min n greatest_number)
 
 -- a pair, sequence or record that was made of parts has at most 1,048,576 nodes
 abbrev pub small_enough : Span → Value → Out Value
@@ -157,7 +160,7 @@ over_places f s bs sc k =
 
 -- a node besides its own 1, from what its parts evaluate to
 abbrev pub node_of : PartOutcomes → Environment → Scope → Tree → Out Value
-node_of f env sc (node s (trees.number n)) = value (values.int (pos (min n greatest_number))) 0 0
+node_of f env sc (node s (trees.number n)) = value (values.int (denoted n)) 0 0
 node_of f env sc (node s (trees.truth b)) = value (values.boolean b) 0 0
 node_of f env sc (node s (trees.character c)) = value (values.character c) 0 0
 node_of f env sc (node s (trees.text cs)) = value (values.sequence (map values.character cs)) (length cs) 0

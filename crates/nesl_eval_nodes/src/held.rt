@@ -1,6 +1,6 @@
 //! What evaluation sees of the top level.
 ghost use Rattle.std.specs.Prelude.{◌≡◌, ⊤, IfOk, option_and_then};
-ghost use Rattle.nesl_eval_meaning.specs.Names.{look_up};
+ghost use Rattle.nesl_builtins.specs.Named.{look_up};
 ghost use Rattle.nesl_eval_code.specs.Run.{slot_at};
 
 use nesl_eval_code::Code;

@@ -9,7 +9,7 @@ ghost use Rattle.nesl_values_builder.specs.Elements.{elements_of};
 ghost use Rattle.nesl_scalars.specs.Scalars.{unary, binary};
 ghost use Rattle.nesl_seqs_base.specs.Lent.{argument_tree};
 ghost use Rattle.nesl_seqs_base.specs.Meaning.{outcome_of};
-ghost use Rattle.nesl_eval_meaning.specs.Names.{look_up};
+ghost use Rattle.nesl_builtins.specs.Named.{look_up};
 ghost use Rattle.nesl_eval_meaning.specs.Out.{value, given};
 ghost use Rattle.nesl_eval_meaning.specs.Outcome.{small_enough, apply_builtin, on_scalars, on_sequence, body_value};
 ghost use Rattle.nesl_eval_meaning.specs.Outcome.{lengths, common_places};

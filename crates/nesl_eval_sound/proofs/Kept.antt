@@ -16,13 +16,13 @@ use Rattle.nesl_types_shared.specs.Term.{Term, int, bool, char, variable, seq_of
 use Rattle.nesl_types_shared.specs.Term as type
 use Rattle.nesl_syntax_tree.specs.Trees.{PatternTree, Tree}
 use Rattle.nesl_builtins.specs.declared.builtin.Builtin.{Builtin}
-use Rattle.nesl_builtins.specs.Named.{builtin_named}
+use Rattle.nesl_builtins.specs.Named.{builtin_named, look_up}
 use Rattle.nesl_builtins.specs.FunctionTypes.{builtin_type, function_type}
 use Rattle.nesl_infer_names.specs.Names.{top_in, as_variable, as_datatype, as_function, built_in_or, itself}
 use Rattle.nesl_infer_rules.specs.World.{Assumptions, Callable, general, single, callable_of}
 use Rattle.nesl_infer_rules.specs.Typing.{CallableTakes}
 use Rattle.nesl_infer.specs.Laws.{scope_with}
-use Rattle.nesl_eval_meaning.specs.Names.{Name, Value, Environment, variable_of, function_of, datatype_of, nothing, look_up}
+use Rattle.nesl_eval_meaning.specs.Names.{Name, Value, Environment, variable_of, function_of, datatype_of, nothing}
 use Rattle.nesl_eval_meaning.specs.Names as evaluated
 use Rattle.nesl_eval_sound.specs.HasType as values
 use Rattle.nesl_eval_sound.specs.Refers.{binds, body_refers}

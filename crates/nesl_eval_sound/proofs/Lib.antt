@@ -14,3 +14,4 @@ pub mod Lines
 pub mod Inferred
 pub mod Worked
 pub mod Referring
+pub mod Referred

@@ -10,7 +10,8 @@ use Rattle.nesl_types_shared.specs.Term.{Term}
 use Rattle.nesl_types_shared.specs.Term as type
 use Rattle.nesl_syntax_tree.specs.Trees.{PatternTree, Tree}
 use Rattle.nesl_infer_names.specs.Names.{top_in, as_datatype}
-use Rattle.nesl_eval_meaning.specs.Names.{Name, Environment, variable_of, function_of, datatype_of, look_up}
+use Rattle.nesl_eval_meaning.specs.Names.{Name, Environment, variable_of, function_of, datatype_of}
+use Rattle.nesl_builtins.specs.Named.{look_up}
 use Rattle.nesl_eval_meaning.specs.Names as evaluated
 use Rattle.nesl_eval_sound.specs.HasType.{HasType}
 use Rattle.nesl_eval_sound.specs.Sound.{IsFine, ground}

@@ -1,5 +1,5 @@
 -- Each node keeps types, where its parts do.
-use Rattle.std.proofs.Common.{◌≡◌, ℕ, zero, suc, ◌<◌, ◌+◌, min, Bool, true, false, cond, List, [], ◌∷◌, ◌++◌, length, map, Option, Some, None, option_and_then, refl, subst, sym, ap, ◌∙◌, arith, slice_get, pos, append_assoc}
+use Rattle.std.proofs.Common.{◌≡◌, ℕ, zero, suc, ◌<◌, ◌+◌, Bool, true, false, cond, List, [], ◌∷◌, ◌++◌, length, map, Option, Some, None, option_and_then, refl, subst, sym, ap, ◌∙◌, arith, slice_get, pos, append_assoc}
 use Rattle.std.specs.Str.{bytes_eq}
 use Rattle.std.specs.List.{list_all, range_with_len}
 use Rattle.std.specs.Prelude.{◌==◌, ◌||◌, codes}
@@ -24,15 +24,15 @@ use Rattle.nesl_syntax_tree.specs.Trees as trees
 use Rattle.nesl_builtins.specs.declared.builtin.Builtin.{Builtin}
 use Rattle.nesl_builtins.specs.declared.builtin.Builtin.TheVariants.{OfSequences}
 use Rattle.nesl_builtins.specs.FunctionTypes.{builtin_type, function_type}
-use Rattle.nesl_builtins.specs.Named.{prefix_builtin, infix_builtin, builtin_named}
+use Rattle.nesl_builtins.specs.Named.{prefix_builtin, infix_builtin, builtin_named, look_up}
 use Rattle.nesl_infer_names.specs.Names.{top_in, as_variable, as_datatype, as_function, built_in_or, itself}
 use Rattle.nesl_infer_rules.specs.World.{Assumptions, OwnFunction, Callable, general, single, callable_of, meanings_in}
 use Rattle.nesl_infer_rules.specs.Typing.{LocalTypes, local_type, newest_type, is_element, element, HasShapeType, HaveType, BindingsAdd, HaveElements, PatternsAdd, BindersAdd, IsVariable, IsInstanceOf, CallableTakes}
 use Rattle.nesl_infer_rules.specs.Typing as typing
-use Rattle.nesl_eval_meaning.specs.Names.{Name, Value, Locals, with_names, outside, Environment, variable_of, function_of, datatype_of, nothing, look_up, bound}
+use Rattle.nesl_eval_meaning.specs.Names.{Name, Value, Locals, with_names, outside, Environment, variable_of, function_of, datatype_of, nothing, bound}
 use Rattle.nesl_eval_meaning.specs.Names as evaluated
 use Rattle.nesl_eval_meaning.specs.Out.{Out, value, fault, and_then, given, all_beside}
-use Rattle.nesl_eval_meaning.specs.Outcome.{PartOutcomes, greatest_number, node_of, small_enough, apply_builtin, variable_in, call_name, branch, two_parts, all_parts, let_of, sources, common_places, lengths, bound_at, first_at, scope_at, out_at, place_if_true, body_value, kept_places, body_values, over_places, out}
+use Rattle.nesl_eval_meaning.specs.Outcome.{PartOutcomes, denoted, node_of, small_enough, apply_builtin, variable_in, call_name, branch, two_parts, all_parts, let_of, sources, common_places, lengths, bound_at, first_at, scope_at, out_at, place_if_true, body_value, kept_places, body_values, over_places, out}
 use Rattle.nesl_eval_sound.specs.HasType.{HasType, Holding}
 use Rattle.nesl_eval_sound.specs.Sound.{IsFine, ground, HasBodyType, IsValue, IsBody, world, AreWellTyped, TypesAreKept}
 use Rattle.nesl_eval_sound.proofs.Each.{Each, Reads, each_weaker, each_of_all}
@@ -361,7 +361,7 @@ module _ (P : Type 0) (context : List (List ℕ × Top × P)) (held : ℕ → Op
 
     -- each node
     node_fine : (s : Span) (k : Shape) (t : Term) (vs : evaluated.Scope) (ts : LocalTypes) → Fits held vs.names vs.element ts → HasShapeType w ts k t → IsFine (Of t) (node_of f env vs (node s k))
-    node_fine s (trees.number n) t vs ts g h = at_type t type.int h (value (values.int (pos (min n greatest_number))) 0 0) tt
+    node_fine s (trees.number n) t vs ts g h = at_type t type.int h (value (values.int (denoted n)) 0 0) tt
     node_fine s (trees.truth b) t vs ts g h = at_type t type.bool h (value (values.boolean b) 0 0) tt
     node_fine s (trees.character c) t vs ts g h = at_type t type.char h (value (values.character c) 0 0) tt
     node_fine s (trees.text cs) t vs ts g h =

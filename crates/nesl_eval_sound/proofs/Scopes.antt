@@ -10,6 +10,7 @@ use Rattle.nesl_infer_rules.specs.World.{Assumptions}
 use Rattle.nesl_infer_rules.specs.Typing.{LocalTypes, local_type, newest_type, is_element, name, element, PatternAdds}
 use Rattle.nesl_infer_rules.specs.Typing.{PatternShapeAdds}
 use Rattle.nesl_eval_meaning.specs.Names.{Name, Value, Locals, bound}
+use Rattle.nesl_builtins.specs.Named.{look_up}
 use Rattle.nesl_eval_meaning.specs.Names as evaluated
 use Rattle.nesl_eval_sound.specs.HasType.{HasType, Holding}
 use Rattle.nesl_eval_sound.specs.Sound.{ground}
@@ -25,7 +26,7 @@ module _ (held : ℕ → Option Term) where
 
   -- each name has a value of its type, and so has the element
   pub record Fits (names : Locals) (first : Option Value) (ts : LocalTypes) : Type 0 where
-    pub names_fit : (x : Name) → Agree (evaluated.look_up names x) (local_type x ts)
+    pub names_fit : (x : Name) → Agree (look_up names x) (local_type x ts)
     pub first_fits : Agree first (newest_type is_element ts)
 
   pub nothing_fits : Fits [] None []
@@ -33,7 +34,7 @@ module _ (held : ℕ → Option Term) where
 
   pub name_added : (x : Name) (v : Value) (t : Term) → HasType held v (ground t) → (names : Locals) (first : Option Value) (ts : LocalTypes) → Fits names first ts
       → Fits ((x, v) ∷ names) first ((name x, t) ∷ ts)
-  name_added x v t j names first ts h = record { names_fit = λ y. either (bytes_eq y x) (evaluated.look_up names y) (local_type y ts) (h.names_fit y); first_fits = h.first_fits }
+  name_added x v t j names first ts h = record { names_fit = λ y. either (bytes_eq y x) (look_up names y) (local_type y ts) (h.names_fit y); first_fits = h.first_fits }
     where
       either : (c : Bool) (o : Option Value) (p : Option Term) → Agree o p → Agree (cond c (Some v) o) (cond c (Some t) p)
       either true o p k = j

@@ -3,6 +3,7 @@ pub mod Keeps
 pub mod Functions
 pub mod Sound
 pub mod Refers
+pub mod Referred
 pub mod Lines
 pub mod Inferred
 pub mod Worked

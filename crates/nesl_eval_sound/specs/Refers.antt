@@ -1,4 +1,4 @@
--- Which names of the top level an expression refers to. Local names hide variables, but never a name before `(`.
+-- Whether an expression refers to one name of the top level, by its parts. `Referred` says the same by its uses.
 use Rattle.std.specs.Prelude.{Bool, false, not, ◌&&◌, ◌||◌}
 use Rattle.std.specs.Str.{bytes_eq}
 use Rattle.std.specs.List.{list_any}

@@ -13,7 +13,8 @@ use Rattle.nesl_infer_names.specs.Names.{top_in}
 use Rattle.nesl_infer_rules.specs.World.{Assumptions, OwnFunction, meanings_in}
 use Rattle.nesl_infer_rules.specs.Typing.{HasType, IsInstanceOf}
 use Rattle.nesl_infer_rules.specs.Principal.{HasFunctionType}
-use Rattle.nesl_eval_meaning.specs.Names.{Name, Environment, variable_of, function_of, datatype_of, look_up, outside}
+use Rattle.nesl_eval_meaning.specs.Names.{Name, Environment, variable_of, function_of, datatype_of, outside}
+use Rattle.nesl_builtins.specs.Named.{look_up}
 use Rattle.nesl_eval_meaning.specs.Names as evaluated
 use Rattle.nesl_eval_meaning.specs.Out.{Out, value, fault, stuck}
 use Rattle.nesl_eval_meaning.specs.Outcome.{out}

@@ -2,7 +2,8 @@
 use Rattle.std.proofs.Common.{◌≡◌, ℕ, suc, [], ◌∷◌, Option, Some, None, true, false, refl, ◌∙◌}
 use Rattle.std.specs.Prelude.{option_map, option_and_then, if◌then◌else◌}
 use Rattle.std.specs.Str.{bytes_eq}
-use Rattle.nesl_eval_meaning.specs.Names.{Name, look_up}
+use Rattle.nesl_eval_meaning.specs.Names.{Name}
+use Rattle.nesl_builtins.specs.Named.{look_up}
 use Rattle.nesl_eval_code.specs.Run.{Table, Slot, slot_at}
 use Rattle.nesl_eval_code.specs.Means.{names_of, place_of}
 

@@ -1,5 +1,5 @@
 -- Where an expression has a type, all its names are known.
-use Rattle.std.proofs.Common.{◌≡◌, ℕ, Bool, true, false, cond, List, [], ◌∷◌, ◌++◌, refl, ap, subst}
+use Rattle.std.proofs.Common.{◌≡◌, ℕ, Bool, true, false, cond, List, [], ◌∷◌, ◌++◌, refl, ap, subst, ◌∙◌}
 use Rattle.std.specs.Prelude.{Option, Some, None, ◌||◌}
 use Rattle.std.specs.Option.{is_some}
 use Rattle.std.specs.List.{list_any}
@@ -11,12 +11,14 @@ use Rattle.nesl_types_shared.specs.Term.{Term, int, bool, seq_of}
 use Rattle.nesl_syntax_tree.specs.Trees.{TypeTree, TypeShape, PatternTree, PatternShape, SignatureTree, Tree, Shape, Trees, Binders, written, pattern, node, none, more, no_binders, binder}
 use Rattle.nesl_syntax_tree.specs.Trees as trees
 use Rattle.nesl_infer_names.specs.Names.{Names, Referent, names_in, span_unless_known, unknown_types, unknown_types_in, unknown_records, unknown_records_in, names_bound, all_names_bound}
-use Rattle.nesl_infer_names.specs.Names.{unknown_names, unknown_in, all_unknown_names, unknown_in_let, unknown_in_each, unknown_of_function}
+use Rattle.nesl_infer_names.specs.Names.{unknown_names, unknown_in, all_unknown_names, unknown_in_let, unknown_in_each}
 use Rattle.nesl_infer_rules.specs.World.{Assumptions, TypedNames, Callable, OwnFunction, DatatypesByName, callable_of}
 use Rattle.nesl_infer_rules.specs.Typing.{Key, LocalTypes, is_name, element, name, local_type, IsVariable, IsWritten, IsWrittenShape, NameTakes}
 use Rattle.nesl_infer_rules.specs.Typing.{PatternAdds, PatternShapeAdds, PatternsAdd, BindersAdd, HasType, HasShapeType, HaveType, BindingsAdd, HaveElements}
 use Rattle.nesl_infer_rules.specs.Principal.{Typed, TypedFunction}
 use Rattle.nesl_infer.specs.References.{with_key, names_of}
+use Rattle.nesl_infer.specs.Uses.{uses, uses_of_function, unknown}
+use Rattle.nesl_infer.proofs.Walked.{known_by_uses, function_by_uses}
 use Rattle.nesl_infer.proofs.Referred.{names-under, parts-names, draws-names, binds-names}
 
 none_in : (ss rs : List Span) → ss ≡ [] → rs ≡ [] → ss ++ rs ≡ []
@@ -154,15 +156,15 @@ module _ (ns : Names) (own : OwnFunction) (of : ℕ → Class) (limit : Option �
         (none_in (unknown_names ns ls e) (unknown_in_each ns ls bs) (typed_known e ls sc (seq_of i) q h.0) (each_known bs ls sc is p.1 q h.1 p.3))
 
 -- an expression of the top level
-pub known_in_typed : {P : Type 0} (context : List (List ℕ × Top × P)) (e : Tree) (of : ℕ → Class) (t : Term) → Typed context e of t → unknown_names (names_in context None) [] e ≡ []
-known_in_typed context e of t h = typed_known (names_in context None) None of (Some 4096) e [] [] t refl h
+pub known_in_typed : {P : Type 0} (context : List (List ℕ × Top × P)) (e : Tree) (of : ℕ → Class) (t : Term) → Typed context e of t → unknown (names_in context None) (uses [] e) ≡ []
+known_in_typed context e of t h = known_by_uses (names_in context None) [] e ∙ typed_known (names_in context None) None of (Some 4096) e [] [] t refl h
 
 -- a function
 pub known_in_function : {P : Type 0} (context : List (List ℕ × Top × P)) (x : List ℕ) (p : PatternTree) (g : Option SignatureTree) (e : Tree) (of : ℕ → Class) (t u : Term) →
-    TypedFunction context x p g e of t u → unknown_of_function (names_in context (Some x)) p e ≡ []
+    TypedFunction context x p g e of t u → unknown (names_in context (Some x)) (uses_of_function p e) ≡ []
 known_in_function context x p g e of t u h =
     let ns = names_in context (Some x) in
     let own : OwnFunction = Some (x, t, u) in
     let N : TypedNames = record { variables = ns.variables; functions = λ y. callable_of own (ns.functions y); datatypes = ns.datatypes } in
-    none_in (unknown_records ns.datatypes p) (unknown_names ns (names_bound p) e) (records_known ns own of (Some 4096) p t h.parts h.taken)
+    function_by_uses ns p e ∙ none_in (unknown_records ns.datatypes p) (unknown_names ns (names_bound p) e) (records_known ns own of (Some 4096) p t h.parts h.taken)
     (typed_known ns own of (Some 4096) e (names_bound p) h.parts u (parts-names N N of (Some 4096) p t h.parts h.taken) h.given)

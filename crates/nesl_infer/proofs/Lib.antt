@@ -3,6 +3,7 @@ pub mod Integers
 pub mod Functions
 pub mod Instanced
 pub mod Known
+pub mod Walked
 pub mod AllKnown
 pub mod Meant
 pub mod Referred

@@ -1,3 +1,4 @@
+pub mod Uses
 pub mod Verdicts
 pub mod Laws
 pub mod References

@@ -1,20 +1,21 @@
 -- What the three calls return: the first unknown name where there is one; else that there is no bounded type; else the
 -- principal type, or that it has a variable. Each may report that memory ran out instead.
-use Rattle.std.specs.Prelude.{◌≡◌, ◌<◌, ◌≤◌, ℕ, List, [], Option, Some, None, Result, Ok, Err}
+use Rattle.std.specs.Prelude.{◌≡◌, ◌≢◌, ◌<◌, ◌≤◌, ℕ, List, [], Option, Some, None, Result, Ok, Err}
 use Rattle.nesl_lex.specs.declared.token.Span.{Span}
 use Rattle.nesl_types.specs.declared.bindings.Top.{Top}
+use Rattle.nesl_types.specs.declared.classes.Class.{Class}
 use Rattle.nesl_types.specs.declared.schemes.Scheme.{Scheme}
-use Rattle.nesl_types_shared.specs.Numbering.{IsBelow}
+use Rattle.nesl_types_shared.specs.Numbering.{variables}
 use Rattle.nesl_types_shared.specs.Term.{Term, nodes}
 use Rattle.nesl_syntax_tree.specs.Trees.{TypeTree, PatternTree, Tree, SignatureTree}
 use Rattle.nesl_builtins.specs.FunctionTypes.{FunctionType, function_type}
 use Rattle.nesl_infer_names.specs.Firsts.{first}
-use Rattle.nesl_infer_names.specs.Names.{Names, names_in, unknown_names, unknown_of_function, unknown_types}
+use Rattle.nesl_infer_names.specs.Names.{Names, names_in, unknown_types}
+use Rattle.nesl_infer.specs.Uses.{uses, uses_of_function, unknown}
 use Rattle.nesl_infer.specs.declared.fault.InferFault.{InferFault}
 use Rattle.nesl_infer.specs.declared.fault.InferFault.TheVariants.{Unknown, IllTyped, Ambiguous, Memory}
 use Rattle.nesl_infer_rules.specs.Typing.{IsWritten}
 use Rattle.nesl_infer_rules.specs.Principal.{TypedBy, TypedFunctionBy, IsPrincipalType, IsPrincipalFunction, IsNumbered}
-use Rattle.nesl_infer_rules.specs.Principal.{IsAmbiguous, HasNoType, HasNoFunctionType}
 
 -- the type that there is, or why there is none
 pub data Verdict (T : Type 0) : Type 0 where
@@ -27,19 +28,23 @@ pub data Verdict (T : Type 0) : Type 0 where
 module _ (known : Option (List ℕ) → Names) where
   -- the type of an expression
   abbrev pub IsTypeBy : Tree → Verdict Term → Type 0
-  IsTypeBy e (typed t) = (unknown_names (known None) [] e ≡ []) × IsPrincipalType (TypedBy known e) t × IsBelow 0 t
-  IsTypeBy e (unknown_at s) = first (unknown_names (known None) [] e) ≡ Some s
-  IsTypeBy e ill_typed = (unknown_names (known None) [] e ≡ []) × HasNoType (TypedBy known e)
-  IsTypeBy e ambiguous = (unknown_names (known None) [] e ≡ []) × IsAmbiguous (TypedBy known e)
+  IsTypeBy e (typed t) =
+      (unknown (known None) (uses [] e) ≡ []) × IsPrincipalType (TypedBy known e) t × (variables t ≡ [])
+  IsTypeBy e (unknown_at s) = first (unknown (known None) (uses [] e)) ≡ Some s
+  IsTypeBy e ill_typed =
+      (unknown (known None) (uses [] e) ≡ []) × ((of : ℕ → Class) (t : Term) → TypedBy known e of t → ⊥)
+  IsTypeBy e ambiguous =
+      (unknown (known None) (uses [] e) ≡ []) × ((t : Term) × IsPrincipalType (TypedBy known e) t × (variables t ≢ []))
 
   -- what a function takes and gives
   abbrev pub IsFunctionBy : List ℕ → PatternTree → Option SignatureTree → Tree → Verdict FunctionType → Type 0
   IsFunctionBy x p g e (typed f) =
-      (unknown_of_function (known (Some x)) p e ≡ []) × IsPrincipalFunction (TypedFunctionBy known x p g e) f ×
+      (unknown (known (Some x)) (uses_of_function p e) ≡ []) × IsPrincipalFunction (TypedFunctionBy known x p g e) f ×
       IsNumbered f
-  IsFunctionBy x p g e (unknown_at s) = first (unknown_of_function (known (Some x)) p e) ≡ Some s
+  IsFunctionBy x p g e (unknown_at s) = first (unknown (known (Some x)) (uses_of_function p e)) ≡ Some s
   IsFunctionBy x p g e ill_typed =
-      (unknown_of_function (known (Some x)) p e ≡ []) × HasNoFunctionType (TypedFunctionBy known x p g e)
+      (unknown (known (Some x)) (uses_of_function p e) ≡ []) ×
+      ((of : ℕ → Class) (t u : Term) → TypedFunctionBy known x p g e of t u → ⊥)
   IsFunctionBy x p g e ambiguous = ⊥
 
   -- what the records of a datatype hold

@@ -1,6 +1,6 @@
 //! Principal types.
 
-ghost use Rattle.std.specs.Prelude.{◌≡◌, ℕ, Err, option_map, IfErr, IfOk, IsErrOf, MatchOption};
+ghost use Rattle.std.specs.Prelude.{◌≡◌, ℕ, [], Some, None, Err, option_map, IfErr, IfOk, IsErrOf, MatchOption};
 ghost use Rattle.nesl_infer_rules.specs.Steps.{Gives};
 ghost use Rattle.nesl_syntax_tree.specs.Views.{tree_of, pattern_tree, signature_tree, type_tree};
 ghost use Rattle.nesl_infer.specs.Verdicts.{IsTypeOf, IsSchemeFor, IsDatatypeFor};
@@ -9,7 +9,9 @@ ghost use Rattle.nesl_types.specs.Class.{class_at};
 ghost use Rattle.nesl_types_shared.specs.Term.{Term};
 ghost use Rattle.nesl_infer_rules.specs.Contexts.{AreClosed};
 ghost use Rattle.nesl_infer_rules.specs.Typing.{IsWritten};
-ghost use Rattle.nesl_infer_names.specs.Names.{datatype_in};
+ghost use Rattle.nesl_infer_names.specs.Firsts.{first};
+ghost use Rattle.nesl_infer_names.specs.Names.{datatype_in, names_in};
+ghost use Rattle.nesl_infer.specs.Uses.{unknown, uses, uses_of_function};
 ghost use Rattle.nesl_infer_rules.specs.Principal.{HasNoType, HasNoFunctionType, IsPrincipal, IsPrincipalScheme, Typed};
 ghost use Rattle.nesl_infer_rules.specs.Principal.{TypedFunction};
 
@@ -25,6 +27,7 @@ use nesl_infer_rules::pattern::constrain_pattern;
 use nesl_infer_rules::signature::constrain_signature;
 use nesl_infer_rules::state::{OwnName, State};
 use nesl_infer_rules::written::written_type;
+use nesl_lex::token::Span;
 use nesl_syntax_tree::tree::{Exp, Pattern, Signature, TypeExp};
 use nesl_types::{Class, Context, Scheme, Ty};
 use nesl_types_shared::Bank;
@@ -124,13 +127,38 @@ fn principal_scheme<P: Drop>(
     Ok(scheme)
 }
 
+/// The first name of an expression that refers to nothing.
+fn first_unknown<P: Drop>(
+    alloc: Global,
+    context: &Context<P>,
+    exp: &Exp,
+) -> Result<Option<Span>, AllocError>
+    ensures { IfOk result (λ r. r ≡ first (unknown (names_in context.now None) (uses [] (tree_of exp.now)))) }
+{
+    unknown_in_exp(alloc, context, exp)
+}
+
+/// The first name of a function's parameter and body that refers to nothing.
+fn first_unknown_in_function<P: Drop>(
+    alloc: Global,
+    context: &Context<P>,
+    name: &[u8],
+    pattern: &Pattern,
+    body: &Exp,
+) -> Result<Option<Span>, AllocError>
+    ensures { IfOk result (λ r. r ≡ first (unknown (names_in context.now (Some name.now))
+        (uses_of_function (pattern_tree pattern.now) (tree_of body.now)))) }
+{
+    unknown_in_function(alloc, context, name, pattern, body)
+}
+
 /// Refuses a long expression in which a name is unknown. It can have enough names that solving takes seconds, which is
 /// of no use there.
 fn check_names<P: Drop>(alloc: Global, context: &Context<P>, exp: &Exp) -> Result<(), InferFault>
     ensures { IfErr result (λ f. IsTypeOf context.now (tree_of exp.now) (Err f)) }
 {
     if is_long(exp) {
-        if let Some(span) = unknown_in_exp(alloc, context, exp)? {
+        if let Some(span) = first_unknown(alloc, context, exp)? {
             return Err(InferFault::Unknown { span });
         }
     }
@@ -151,7 +179,7 @@ fn check_names_in_function<P: Drop>(
 {
     let _ = signature;
     if is_long(body) {
-        if let Some(span) = unknown_in_function(alloc, context, name, pattern, body)? {
+        if let Some(span) = first_unknown_in_function(alloc, context, name, pattern, body)? {
             return Err(InferFault::Unknown { span });
         }
     }
@@ -178,7 +206,7 @@ pub fn infer_exp<P: Drop>(alloc: Global, context: &Context<P>, exp: &Exp) -> Res
                 Err(InferFault::Ambiguous)
             }
         }
-        Err(SolveFault::NoSolution) => match unknown_in_exp(alloc, context, exp)? {
+        Err(SolveFault::NoSolution) => match first_unknown(alloc, context, exp)? {
             Some(span) => Err(InferFault::Unknown { span }),
             None => Err(InferFault::IllTyped),
         },
@@ -206,7 +234,7 @@ pub fn infer_function<P: Drop>(
     match principal_scheme(alloc, context, name, pattern, signature, body) {
         Ok(scheme) => Ok(scheme),
         Err(SolveFault::NoSolution) => {
-            match unknown_in_function(alloc, context, name, pattern, body)? {
+            match first_unknown_in_function(alloc, context, name, pattern, body)? {
                 Some(span) => Err(InferFault::Unknown { span }),
                 None => Err(InferFault::IllTyped),
             }

@@ -64,36 +64,29 @@ abbrev pub hides : OwnName → List ℕ → Bool
 hides None x = false
 hides (Some own) x = bytes_eq x own || bytes_eq x (codes "it")
 
--- what the variables are where an expression is, by what they are at the top level
-abbrev pub visible : (List ℕ → Option Term) → OwnName → List ℕ → Option Term
-visible variables own x = if hides own x then None else variables x
-
--- what may come before `(`, by what functions and datatypes the top level has
-abbrev pub callable : (List ℕ → Option Referent) → OwnName → List ℕ → Option Referent
-callable functions own x = if is_own own x then Some itself else built_in_or (builtin_named x) (functions x)
-
--- what names refer to where an expression is, by what the top level has
+-- what names refer to where an expression is, by what the top level has: `variables`, and before `(` what functions and
+-- datatypes it has
 abbrev pub names_from :
     (List ℕ → Option Term) → (List ℕ → Option Referent) → (List ℕ → Option (ℕ × Term)) → OwnName → Names
 names_from variables functions datatypes own = record {
-  variables = visible variables own;
-  functions = callable functions own;
+  variables = λ x. if hides own x then None else variables x;
+  functions = λ x. if is_own own x then Some itself else built_in_or (builtin_named x) (functions x);
   datatypes = datatypes;
 }
 
 module _ {P : Type 0} (context : List (List ℕ × Top × P)) where
-  abbrev pub variable_in : OwnName → List ℕ → Option Term
-  variable_in = visible (λ x. as_variable (top_in context x))
-
-  abbrev pub function_in : OwnName → List ℕ → Option Referent
-  function_in = callable (λ x. as_function (top_in context x))
-
   abbrev pub datatype_in : List ℕ → Option (ℕ × Term)
   datatype_in x = as_datatype (top_in context x)
 
   abbrev pub names_in : OwnName → Names
   names_in =
       names_from (λ x. as_variable (top_in context x)) (λ x. as_function (top_in context x)) datatype_in
+
+  abbrev pub variable_in : OwnName → List ℕ → Option Term
+  variable_in own = (names_in own).variables
+
+  abbrev pub function_in : OwnName → List ℕ → Option Referent
+  function_in own = (names_in own).functions
 
 -- the span, where the name refers to nothing
 abbrev pub span_unless_known : Bool → Span → List Span

@@ -1,8 +1,9 @@
 -- How values are written. The forms are this profile's.
-use Rattle.std.specs.Prelude.{ℕ, Bool, true, false, not, ◌&&◌, ◌==◌, nat_le, if◌then◌else◌}
+use Rattle.std.specs.Prelude.{ℕ, Bool, true, false, not, ◌&&◌, ◌==◌, if◌then◌else◌}
 use Rattle.std.specs.Prelude.{map, List, [], ◌∷◌, ◌++◌, Option, None, Some, unwrap_or, codes, decimal}
 use Rattle.std.specs.Fmt.{signed_decimal}
 use Rattle.std.specs.List.{list_all}
+use Rattle.nesl_lex.specs.Lexemes.{is_printable}
 use Rattle.nesl_values.specs.Parts.{list_of}
 use Rattle.nesl_values.specs.Tree.{ValueTree, ValueTrees, int, boolean, character, pair, seq, tagged, no_trees}
 use Rattle.nesl_values.specs.Tree.{tree_then}
@@ -48,11 +49,7 @@ abbrev pub is_text_type : Term → Bool
 is_text_type (seq_of char) = true
 is_text_type t = false
 
--- the bytes that are written as themselves, 32 to 126
-abbrev pub is_printable : ℕ → Bool
-is_printable c = nat_le 32 c && nat_le c 126
-
--- a backquote and its byte, or `code_char(N)`
+-- a backquote and its byte, where it is printable, or `code_char(N)`
 abbrev pub character_text : ℕ → List ℕ
 character_text c = if is_printable c then 96 ∷ c ∷ [] else codes "code_char(" ++ decimal c ++ codes ")"
 

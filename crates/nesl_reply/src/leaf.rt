@@ -2,7 +2,8 @@
 
 ghost use Rattle.std.specs.Prelude.{◌≡◌, ◌++◌, codes, if◌then◌else◌, OnOk, map};
 ghost use Rattle.nesl_values.specs.Tree.{ValueTree, int, boolean, character};
-ghost use Rattle.nesl_reply.specs.Values.{character_text, is_printable};
+ghost use Rattle.nesl_lex.specs.Lexemes.{is_printable};
+ghost use Rattle.nesl_reply.specs.Values.{character_text};
 ghost use Rattle.nesl_reply.specs.Tasks.{leaf_text, other_leaves};
 
 use crate::writing::{write_bytes, write_integer, write_number};

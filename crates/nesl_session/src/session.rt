@@ -6,7 +6,7 @@ ghost use Rattle.nesl_eval_meaning.specs.Out.{within};
 ghost use Rattle.nesl_eval_meaning.specs.Outcome.{out};
 ghost use Rattle.nesl_eval_top_level.specs.Stored.{environment};
 ghost use Rattle.nesl_eval.specs.Outcomes.{OutcomeIs};
-ghost use Rattle.nesl_session_meaning.specs.State.{State, names_of, remaining_of, recorded_lines, empty_log};
+ghost use Rattle.nesl_session_meaning.specs.State.{State, remaining_of, recorded_lines, empty_log};
 ghost use Rattle.nesl_session_meaning.specs.Solo.{Replays, Responds};
 ghost use Rattle.nesl_session_bindings.specs.Stored.{bindings_of};
 ghost use Rattle.nesl_session.specs.Asking.{AnswersWith};
@@ -169,7 +169,7 @@ impl Session {
 
     /// The names that are bound, in order of their first definition.
     pub fn bindings(&self) -> Names<'_>
-        ensures { (s : State) × Replays self.now s × (names_left result ≡ names_of s) }
+        ensures { (s : State) × Replays self.now s × (names_left result ≡ map (λ b. b.name) s.bindings) }
     {
         Names {
             bindings: &self.standing.bindings,

@@ -1,6 +1,6 @@
 -- Entries as bindings: what holds of the ones by the others.
 use Rattle.std.proofs.Common.{◌≡◌, ℕ, Bool, true, false, refl, sym, ap, subst, List, [], ◌∷◌, map, Option, Some, None}
-use Rattle.std.specs.Prelude.{option_map, option_and_then, ◌+◌, if◌then◌else◌}
+use Rattle.std.specs.Prelude.{is_some, option_map, option_and_then, ◌+◌, ◌==◌, if◌then◌else◌}
 use Rattle.std.specs.Option.{option_map_or}
 use Rattle.std.specs.List.{find}
 use Rattle.std.specs.Str.{bytes_eq}
@@ -17,7 +17,7 @@ use Rattle.nesl_eval_top_level.specs.Stored.{Entry}
 use Rattle.nesl_reply.specs.Values as replies
 use Rattle.nesl_eval_sound.specs.Lines as lines
 use Rattle.nesl_session_bindings.specs.Meanings.{Meaning}
-use Rattle.nesl_session_bindings.specs.Known.{meaning_in, type_of, referent_of, record_of, known, top_of, environment, has_tag, content_of, datatypes_of, is_a_datatype, datatype_count, put_binding}
+use Rattle.nesl_session_bindings.specs.Known.{meaning_in, type_of, referent_of, record_of, known, top_of, environment, datatypes_of, datatype_count, put_binding}
 use Rattle.nesl_session_bindings.specs.Stored.{PayloadFits, meaning_of, binding_of, bindings_of, AllFit}
 
 -- what an entry is
@@ -45,19 +45,22 @@ top_is (kind.Function s) (payload.Function p e) h = refl
 top_is (kind.Datatype tag t) payload.Datatype h = refl
 top_is _ _ h = absurd h
 
+abbrev has_tag : ℕ → Meaning → Bool
+has_tag tag m = option_map_or (λ r. r.0 == tag) (record_of m) false
+
 tag_is : (tag : ℕ) (t : kinds.Top) (p : Payload) → PayloadFits t p → has_tag tag (meaning_of t p) ≡ types.is_datatype tag t
 tag_is tag (kind.Variable t) (payload.Variable v) h = refl
 tag_is tag (kind.Function s) (payload.Function p e) h = refl
 tag_is tag (kind.Datatype n t) payload.Datatype h = refl
 tag_is tag _ _ h = absurd h
 
-content_is : (e : Entry) → PayloadFits e.1 e.2 → content_of (meaning_of e.1 e.2) ≡ replies.held_by (Some e)
+content_is : (e : Entry) → PayloadFits e.1 e.2 → option_map (λ r. r.1) (record_of (meaning_of e.1 e.2)) ≡ replies.held_by (Some e)
 content_is (x, kind.Variable t, payload.Variable v) h = refl
 content_is (x, kind.Function s, payload.Function p e) h = refl
 content_is (x, kind.Datatype tag t, payload.Datatype) h = refl
 content_is (x, _, _) h = absurd h
 
-sort_is : (t : kinds.Top) (p : Payload) → PayloadFits t p → is_a_datatype (meaning_of t p) ≡ lines.is_type t
+sort_is : (t : kinds.Top) (p : Payload) → PayloadFits t p → is_some (record_of (meaning_of t p)) ≡ lines.is_type t
 sort_is (kind.Variable t) (payload.Variable v) h = refl
 sort_is (kind.Function s) (payload.Function p e) h = refl
 sort_is (kind.Datatype tag t) payload.Datatype h = refl
@@ -123,11 +126,11 @@ module _ (tag : ℕ) where
   held_is : (es : List Entry) → AllFit es → (datatypes_of (bindings_of es)).held tag ≡ (replies.datatypes es).held tag
   held_is [] h = refl
   held_is (e ∷ es) h =
-      subst (λ (q : Bool). option_and_then (λ b. content_of b.meaning) (if q then Some (binding_of e) else find (λ b. has_tag tag b.meaning) (bindings_of es)) ≡ (replies.datatypes (e ∷ es)).held tag)
+      subst (λ (q : Bool). option_and_then (λ b. option_map (λ r. r.1) (record_of b.meaning)) (if q then Some (binding_of e) else find (λ b. has_tag tag b.meaning) (bindings_of es)) ≡ (replies.datatypes (e ∷ es)).held tag)
       (sym (tag_is tag e.1 e.2 h.0)) (by (types.is_datatype tag e.1) (held_is es h.1))
     where
       by : (q : Bool) → (datatypes_of (bindings_of es)).held tag ≡ (replies.datatypes es).held tag →
-          option_and_then (λ b. content_of b.meaning) (if q then Some (binding_of e) else find (λ b. has_tag tag b.meaning) (bindings_of es))
+          option_and_then (λ b. option_map (λ r. r.1) (record_of b.meaning)) (if q then Some (binding_of e) else find (λ b. has_tag tag b.meaning) (bindings_of es))
           ≡ replies.held_by (if q then Some e else types.datatype_at es tag)
       by true i = content_is e h.0
       by false i = i

@@ -16,6 +16,8 @@ use Rattle.nesl_eval_top_level.specs.declared.env.Payload.TheVariants as payload
 use Rattle.nesl_eval_meaning.specs.Names.{Name}
 use Rattle.nesl_eval_top_level.specs.Stored.{Entry, top_of}
 use Rattle.nesl_eval_sound.specs.Refers.{is_referred}
+use Rattle.nesl_eval_sound.specs.Referred.{is_named_elsewhere}
+use Rattle.nesl_eval_sound.proofs.Referred.{same_elsewhere}
 use Rattle.nesl_eval_sound.specs.Lines.{IsRedefinable, IsUnchanged, is_type, values_of}
 use Rattle.nesl_session_bindings.specs.Known.{meaning_in, environment}
 use Rattle.nesl_session_bindings.specs.Meanings.{Meaning, variable, function, datatype}
@@ -86,8 +88,8 @@ module _ (es : List Entry) (fit : AllFit es) (x : Name) where
           absurd (both_ways (is_in_use (meaning_in (bindings_of es) x) a_datatype) (not_kept a_datatype h.1)
           (ap (λ o. is_in_use o a_datatype) (meant (Some (u, p)) e) ∙ kept_bound (meaning_of u p)))
 
-  referred : is_referred x (values_of top_of es) ≡ true → is_referred x (environment (bindings_of es)) ≡ true
-  referred h = ap (is_referred x) (environment_is es fit) ∙ h
+  referred : is_referred x (values_of top_of es) ≡ true → is_named_elsewhere x (environment (bindings_of es)) ≡ true
+  referred h = same_elsewhere x (environment (bindings_of es)) ∙ ap (is_referred x) (environment_is es fit) ∙ h
 
   pub variable_free : (t : Term) → RefusesDefinition (bindings_of es) x (a_variable t) None → IsRedefinable top_of es x (kind.Variable t)
   variable_free t h = record {

@@ -15,6 +15,7 @@ use Rattle.nesl_syntax_tree.specs.Views as syntax
 use Rattle.nesl_builtins.specs.FunctionTypes.{function_type}
 use Rattle.nesl_infer_names.specs.Names.{Names, OwnName}
 use Rattle.nesl_infer.specs.Verdicts.{IsTypeBy, IsFunctionBy, IsContentBy, typed}
+use Rattle.nesl_infer.proofs.Closed.{none_below}
 use Rattle.nesl_eval_top_level.specs.declared.env.Payload.{Payload}
 use Rattle.nesl_eval_top_level.specs.declared.env.Payload.TheVariants as payload
 use Rattle.nesl_eval_meaning.specs.Names.{Name, Environment, outside}
@@ -25,8 +26,7 @@ use Rattle.nesl_eval_sound.specs.Lines.{IsSound}
 use Rattle.nesl_eval_sound.specs.Inferred.{InferredVariablesStaySound, InferredFunctionsStaySound, WrittenDatatypesStaySound}
 use Rattle.nesl_session_bindings.specs.Others.{other_elements}
 use Rattle.nesl_session_bindings.specs.Known.{known, datatype_count, put_binding}
-use Rattle.nesl_session_bindings.specs.Meanings.{Meaning, elements_in, elements_of}
-use Rattle.nesl_session_bindings.specs.Nodes.{expression_nodes}
+use Rattle.nesl_session_bindings.specs.Meanings.{Meaning, elements_in, elements_of, nodes_in}
 use Rattle.nesl_session_bindings.specs.Redefinition.{RefusesDefinition, a_variable, a_function, a_datatype}
 use Rattle.nesl_session_bindings.specs.Stored.{meaning_of, bindings_of, AreKept, IsComputed}
 use Rattle.nesl_session_bindings.proofs.Counts.{put_elements}
@@ -45,14 +45,14 @@ module _ (es : List Entry) (n : ℕ) (kept : AreKept es n) (x : Name) where
       let ty = subst (λ (k : OwnName → Names). IsTypeBy k e (typed t)) (known_is es kept.fit) inferred in
       record {
         fit = fit_after x (kind.Variable t) (payload.Variable v) tt es kept.fit;
-        sound = law es kept.sound x e t ty.1 ty.2 (variable_free es kept.fit x t free) levels w d (tree_of v)
+        sound = law es kept.sound x e t ty.1 (none_below t ty.2) (variable_free es kept.fit x t free) levels w d (tree_of v)
             (ap (λ (env : Environment). out levels env (outside []) e) (sym (environment_is es kept.fit)) ∙ came) (payload.Variable v) refl;
         counted = counted (kind.Variable t) (payload.Variable v) m count;
       }
 
   pub function_kept : InferredFunctionsStaySound {P = Payload} top_of → (s : Scheme) (p : Pattern) (e : Exp) →
       (g : Option SignatureTree) × IsFunctionBy (known (bindings_of es)) x (syntax.pattern_tree p) g (syntax.tree_of e) (typed (function_type s)) →
-      RefusesDefinition (bindings_of es) x (a_function (function_type s)) None → (m : ℕ) → m ≡ other_elements x (bindings_of es) + expression_nodes (syntax.tree_of e) →
+      RefusesDefinition (bindings_of es) x (a_function (function_type s)) None → (m : ℕ) → m ≡ other_elements x (bindings_of es) + nodes_in (syntax.tree_of e) →
       AreKept (with_name x (kind.Function s) (payload.Function p e) es) m
   function_kept law s p e (g, inferred) free m count =
       let ty = subst (λ (k : OwnName → Names). IsFunctionBy k x (syntax.pattern_tree p) g (syntax.tree_of e) (typed (function_type s))) (known_is es kept.fit) inferred in
@@ -102,12 +102,12 @@ module _ (es self new : List Entry) (x : Name) (seen : es ≡ self) where
     pub function_set : InferredFunctionsStaySound {P = Payload} top_of → (s : Scheme) (p : Pattern) (d : Exp) →
         (g : Option SignatureTree) × IsFunctionBy (known (bindings_of self)) x (syntax.pattern_tree p) g (syntax.tree_of d) (typed (function_type s)) →
         RefusesDefinition (bindings_of self) x (a_function (function_type s)) None → new ≡ with_name x (kind.Function s) (payload.Function p d) es →
-        b ≡ expression_nodes (syntax.tree_of d) → AreKept new (a + b)
+        b ≡ nodes_in (syntax.tree_of d) → AreKept new (a + b)
     function_set law s p d inferred free e f =
         let P : List Entry → Type 0 = λ bs. AreKept bs (a + b) in
         let C : List Entry → Type 0 = λ bs. (g : Option SignatureTree) × IsFunctionBy (known (bindings_of bs)) x (syntax.pattern_tree p) g (syntax.tree_of d) (typed (function_type s)) in
         let R : List Entry → Type 0 = λ bs. RefusesDefinition (bindings_of bs) x (a_function (function_type s)) None in
-        subst P (sym e) (function_kept es n kept x law s p d (subst C (sym seen) inferred) (subst R (sym seen) free) (a + b) (sum (expression_nodes (syntax.tree_of d)) f))
+        subst P (sym e) (function_kept es n kept x law s p d (subst C (sym seen) inferred) (subst R (sym seen) free) (a + b) (sum (nodes_in (syntax.tree_of d)) f))
 
     pub datatype_set : WrittenDatatypesStaySound {P = Payload} top_of → (tag : ℕ) → tag ≡ lines.datatypes es → (t : Term) →
         (w : TypeTree) × IsContentBy (known (bindings_of self)) w (typed t) → RefusesDefinition (bindings_of self) x a_datatype None →

@@ -6,6 +6,7 @@ use Rattle.nesl_types_shared.specs.Term.{Term}
 use Rattle.nesl_syntax_tree.specs.Trees.{Tree}
 use Rattle.nesl_infer_names.specs.Names.{Names, OwnName, names_in}
 use Rattle.nesl_infer.specs.Verdicts.{IsTypeBy, typed}
+use Rattle.nesl_infer.proofs.Closed.{none_below}
 use Rattle.nesl_eval_top_level.specs.declared.env.Payload.{Payload}
 use Rattle.nesl_eval_meaning.specs.Names.{Environment, Value, outside}
 use Rattle.nesl_eval_meaning.specs.Out.{Out, stuck}
@@ -45,4 +46,4 @@ never_stuck law es self n kept seen =
     subst P seen (λ e t inferred m q.
     let ty = subst (λ (k : OwnName → Names). IsTypeBy k e (typed t)) (known_is es kept.fit) inferred in
     subst (λ (o : Out Value). IsFine (λ v. HasType (held_in es) v t) o) (ap (λ (env : Environment). out m env (outside []) e) (sym (environment_is es kept.fit)) ∙ q)
-    (law es kept.sound e t ty.1 ty.2 m))
+    (law es kept.sound e t ty.1 (none_below t ty.2) m))

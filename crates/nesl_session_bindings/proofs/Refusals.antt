@@ -12,6 +12,8 @@ use Rattle.nesl_eval_top_level.specs.Stored as stored
 use Rattle.nesl_eval_top_level.specs.Stored.{Entry}
 use Rattle.nesl_eval_sound.specs.Lines.{is_type}
 use Rattle.nesl_eval_sound.specs.Refers.{is_referred}
+use Rattle.nesl_eval_sound.specs.Referred.{is_named_elsewhere}
+use Rattle.nesl_eval_sound.proofs.Referred.{same_elsewhere}
 use Rattle.nesl_session_bindings.specs.Known.{meaning_in, environment}
 use Rattle.nesl_session_bindings.specs.Meanings.{Meaning}
 use Rattle.nesl_session_bindings.specs.Redefinition.{Definition, a_variable, a_function, a_datatype, ChangesType, IsRetyped, is_in_use}
@@ -56,7 +58,8 @@ module _ (es : List Entry) (fit : AllFit es) (x : Name) (k : Definition) where
   retyped_when t p e other referred h r =
       let same = meant (Some (t, p)) e in
       let fits = h p (found-fits x es fit t p e) in
-      let seen : is_referred x (environment (bindings_of es)) ≡ referred = ap (is_referred x) (environment_is es fit) ∙ sym r in (
+      let seen : is_named_elsewhere x (environment (bindings_of es)) ≡ referred =
+      same_elsewhere x (environment (bindings_of es)) ∙ ap (is_referred x) (environment_is es fit) ∙ sym r in (
         λ q. let parts = and_parts other referred q in (seen ∙ parts.1, subst (λ (o : Option Meaning). ChangesType o k) same (fits.0 parts.0)),
         λ q. and_from other referred (fits.1 (subst (λ (o : Option Meaning). ChangesType o k) (sym same) q.1)) (sym seen ∙ q.0),
       )

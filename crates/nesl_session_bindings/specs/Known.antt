@@ -1,6 +1,6 @@
 -- What the names of a session mean to typing, to evaluation and to replies.
-use Rattle.std.specs.Prelude.{ℕ, ◌+◌, ◌==◌, Bool, true, false, List, [], ◌∷◌, map, Option, Some, None}
-use Rattle.std.specs.Prelude.{option_and_then, if◌then◌else◌}
+use Rattle.std.specs.Prelude.{ℕ, ◌+◌, ◌==◌, false, List, [], ◌∷◌, map, Option, Some, None}
+use Rattle.std.specs.Prelude.{is_some, option_and_then, option_map, if◌then◌else◌}
 use Rattle.std.specs.Option.{option_map_or}
 use Rattle.std.specs.List.{find}
 use Rattle.std.specs.Str.{bytes_eq}
@@ -49,33 +49,20 @@ abbrev pub environment : List Binding → Environment
 environment bs = map (λ b. (b.name, top_of b.meaning)) bs
 
 -- the datatype with a tag
-abbrev pub has_tag : ℕ → Meaning → Bool
-has_tag tag (datatype n t) = n == tag
-has_tag tag _ = false
-
 abbrev pub datatype_with : ℕ → List Binding → Option Binding
-datatype_with tag bs = find (λ b. has_tag tag b.meaning) bs
-
--- what records hold
-abbrev pub content_of : Meaning → Option Term
-content_of (datatype n t) = Some t
-content_of _ = None
+datatype_with tag bs = find (λ b. option_map_or (λ r. r.0 == tag) (record_of b.meaning) false) bs
 
 -- the names of datatypes and what they hold, for replies
 abbrev pub datatypes_of : List Binding → DatatypesByTag
 datatypes_of bs = record {
   name = λ tag. option_map_or (λ b. b.name) (datatype_with tag bs) [];
-  held = λ tag. option_and_then (λ b. content_of b.meaning) (datatype_with tag bs);
+  held = λ tag. option_and_then (λ b. option_map (λ r. r.1) (record_of b.meaning)) (datatype_with tag bs);
 }
 
 -- how many datatypes there are, which is the tag of the next
-abbrev pub is_a_datatype : Meaning → Bool
-is_a_datatype (datatype n t) = true
-is_a_datatype _ = false
-
 abbrev pub datatype_count : List Binding → ℕ
 datatype_count [] = 0
-datatype_count (b ∷ bs) = if is_a_datatype b.meaning then 1 + datatype_count bs else datatype_count bs
+datatype_count (b ∷ bs) = if is_some (record_of b.meaning) then 1 + datatype_count bs else datatype_count bs
 
 -- a name that is bound again keeps its place, and a new one goes last
 abbrev pub put_binding : Name → Meaning → List Binding → List Binding

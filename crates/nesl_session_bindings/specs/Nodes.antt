@@ -1,5 +1,4 @@
--- The number of expression nodes of a body. Each node counts, also the pair of an argument list and the unwritten body
--- of an apply-to-each. Patterns and written types do not count.
+-- The number of expression nodes of a body, as the sum of those of its parts.
 use Rattle.std.specs.Prelude.{ℕ, ◌+◌}
 use Rattle.nesl_syntax_tree.specs.Trees.{Tree, Shape, Trees, Binders, node, none, more, no_binders, binder}
 use Rattle.nesl_syntax_tree.specs.Trees as trees

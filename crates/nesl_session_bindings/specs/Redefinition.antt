@@ -5,7 +5,7 @@ use Rattle.nesl_types_shared.specs.Term.{Term}
 use Rattle.nesl_builtins.specs.FunctionTypes.{FunctionType}
 use Rattle.nesl_builtins.specs.Named.{builtin_named}
 use Rattle.nesl_eval_meaning.specs.Names.{Name}
-use Rattle.nesl_eval_sound.specs.Refers.{is_referred}
+use Rattle.nesl_eval_sound.specs.Referred.{is_named_elsewhere}
 use Rattle.nesl_session_bindings.specs.declared.refusal.Refusal.{Refusal}
 use Rattle.nesl_session_bindings.specs.declared.refusal.Refusal.TheVariants.{Retype, Taken}
 use Rattle.nesl_session_bindings.specs.Meanings.{Meaning, Binding, variable, function, datatype}
@@ -27,7 +27,7 @@ ChangesType _ _ = ⊥
 
 -- the type would change, though the body of another function refers to the name
 abbrev pub IsRetyped : List Binding → Name → Definition → Type 0
-IsRetyped bs x k = (is_referred x (environment bs) ≡ true) × ChangesType (meaning_in bs x) k
+IsRetyped bs x k = (is_named_elsewhere x (environment bs) ≡ true) × ChangesType (meaning_in bs x) k
 
 -- the name that is bound to the value of an expression alone
 abbrev pub it : Name

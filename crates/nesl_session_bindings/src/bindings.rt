@@ -17,8 +17,8 @@ ghost use Rattle.nesl_eval_top_level.specs.Stored as stored;
 ghost use Rattle.nesl_reply.specs.Replies.{report_of, report_text};
 ghost use Rattle.nesl_session_bindings.specs.Others.{other_elements};
 ghost use Rattle.nesl_session_bindings.specs.Known.{datatype_count, datatypes_of, environment, known, put_binding};
-ghost use Rattle.nesl_session_bindings.specs.Meanings.{datatype, elements_in, elements_of, function, variable};
-ghost use Rattle.nesl_session_bindings.specs.Nodes.{expression_nodes};
+ghost use Rattle.nesl_session_bindings.specs.Meanings.{datatype, elements_in, elements_of, function};
+ghost use Rattle.nesl_session_bindings.specs.Meanings.{nodes_in, variable};
 ghost use Rattle.nesl_session_bindings.specs.Redefinition.{RefusesDefinition, a_datatype, a_function, a_variable};
 ghost use Rattle.nesl_session_bindings.specs.Stored.{IsComputed, bindings_of, kind_of};
 
@@ -183,12 +183,12 @@ impl Bindings {
 
     // Whether all names have at most `limit` elements once a further one has this body.
     fn has_room_for_body(&self, body: &Exp, limit: u64) -> bool
-        ensures { IsTrue result → elements_of (bindings_of self.now) + expression_nodes (tree_of body.now) ≤ limit }
+        ensures { IsTrue result → elements_of (bindings_of self.now) + nodes_in (tree_of body.now) ≤ limit }
     {
         let Some(room) = limit.checked_sub(self.elements()) else {
             return false;
         };
-        match nodes::room_left(body, room) {
+        match nodes::left_after(body, room) {
             Some(_) => true,
             None => false,
         }
@@ -219,7 +219,7 @@ impl Bindings {
             return true;
         }
         match limit.checked_sub(self.other_elements(name)) {
-            Some(room) => nodes::room_left(body, room).is_some(),
+            Some(room) => nodes::left_after(body, room).is_some(),
             None => false,
         }
     }

@@ -2,26 +2,35 @@
 
 ghost use Rattle.std.specs.Prelude.{◌≡◌, ◌+◌, ◌<◌, ◌^◌, MatchOption};
 ghost use Rattle.nesl_syntax_tree.specs.Views.{tree_of, trees_in, binders_in};
+ghost use Rattle.nesl_session_bindings.specs.Meanings.{nodes_in};
 ghost use Rattle.nesl_session_bindings.specs.Nodes.{expression_nodes, nodes_of_all, nodes_bound};
 
 use nesl_syntax_tree::tree::{Binding, Exp, Node};
 
 /// The number of nodes of the expression.
 pub fn nodes(exp: &Exp) -> u64
-    requires { expression_nodes (tree_of exp.now) < 2 ^ 64 }
-    ensures { result ≡ expression_nodes (tree_of exp.now) }
+    requires { nodes_in (tree_of exp.now) < 2 ^ 64 }
+    ensures { result ≡ nodes_in (tree_of exp.now) }
 {
-    match room_left(exp, u64::MAX) {
+    match left_after(exp, u64::MAX) {
         Some(left) => u64::MAX - left,
         None => unreachable!(),
     }
 }
 
-/// What is left of `room` after the nodes of the expression, or `None` if they are more. The most frequent leaves are
-/// counted inline.
+/// What is left of `room` after the nodes of the expression, or `None` if they are more.
+#[inline(always)]
+pub fn left_after(exp: &Exp, room: u64) -> Option<u64>
+    ensures { MatchOption result (room < nodes_in (tree_of exp.now))
+        (λ left. left + nodes_in (tree_of exp.now) ≡ room) }
+{
+    room_left(exp, room)
+}
+
+/// The same, by the sum of the parts. The most frequent leaves are counted inline.
 #[cycle(rooms)]
 #[inline(always)]
-pub fn room_left(exp: &Exp, room: u64) -> Option<u64>
+fn room_left(exp: &Exp, room: u64) -> Option<u64>
     ensures { MatchOption result (room < expression_nodes (tree_of exp.now))
         (λ left. left + expression_nodes (tree_of exp.now) ≡ room) }
 {

@@ -18,7 +18,7 @@ fn room_left(top: &Top, payload: &Payload, room: u64) -> Option<u64>
 {
     match payload {
         Payload::Variable(value) => room.checked_sub(value.nodes()),
-        Payload::Function { body, .. } => nodes::room_left(body, room),
+        Payload::Function { body, .. } => nodes::left_after(body, room),
         Payload::Datatype => match top {
             Top::Datatype(_, content) => content.room_left(room),
             Top::Variable(_) => unreachable!(),

@@ -50,7 +50,7 @@ plus_principal : (ns : Option (List ℕ) → Names) (s r q : Span) (n m : ℕ) (
 plus_principal ns s r q n m of t h = record { put = λ v. int; same = plus_gives of h.1.0 h.1.1 t h.1.2.1 h.1.4; within = λ v. tt }
 
 pub plus_type : (ns : Option (List ℕ) → Names) (s r q : Span) (n m : ℕ) → IsTypeBy ns (plus s r q n m) (typed int)
-plus_type ns s r q n m = (refl, (λ v. Any, record { fits = plus_typed ns s r q n m (λ v. Any); most_general = plus_principal ns s r q n m }), tt)
+plus_type ns s r q n m = (refl, (λ v. Any, record { fits = plus_typed ns s r q n m (λ v. Any); most_general = plus_principal ns s r q n m }), refl)
 
 -- with two levels and more
 two_at : (n : ℕ) (env : Environment) (s r q : Span) → out (suc (suc n)) env (outside []) (plus s r q 1 1) ≡ value (values.int (pos 2)) 3 3

@@ -10,7 +10,7 @@ use Rattle.nesl_syntax.specs.Laws.{FormComputes}
 use Rattle.nesl_reply.specs.declared.fault.Fault.TheVariants as faults
 use Rattle.nesl_session_meaning.specs.declared.limits.Limits.{Limits}
 use Rattle.nesl_session_meaning.specs.State.{State, empty}
-use Rattle.nesl_session_meaning.specs.Reading.{Reading, HasReading, no_token, no_form, form, highest, has_no_token, has_no_form, has_form}
+use Rattle.nesl_session_meaning.specs.Reading.{Reading, HasReading, no_token, no_form, form, has_no_token, has_no_form, has_form}
 use Rattle.nesl_session_meaning.specs.Response.{Reply, fault_reply}
 use Rattle.nesl_session_meaning.specs.Finding.{Finding, unread, reset, part, FindsReading}
 use Rattle.nesl_session_meaning.specs.Step.{Step, reply_of, after, is_reset, is_full, is_part, longest, most_recorded, recorded_by_reset}
@@ -44,7 +44,7 @@ tokens_of : ReadingComputes → (line : List ℕ) → (reading_of line).ending �
 tokens_of computes line e = let P : Ending → Type 0 = λ x. Reads 0 line (reading_of line).tokens x in subst P e (computes line)
 
 -- a line whose tokens are computed, and their tree
-pub formed : ReadingComputes → FormComputes → (line : List ℕ) (l : FormTree) → (reading_of line).ending ≡ whole → form_in (reading_of line).tokens ≡ Some l → form_height l ≤ highest → HasReading line (form l)
+pub formed : ReadingComputes → FormComputes → (line : List ℕ) (l : FormTree) → (reading_of line).ending ≡ whole → form_in (reading_of line).tokens ≡ Some l → form_height l ≤ 100 → HasReading line (form l)
 formed reads forms line l e f low = has_form (tokens_of reads line e) ((forms (reading_of line).tokens l).0 f) low
 
 -- or that they have none

@@ -12,19 +12,13 @@ pub data Reading : Type 0 where
   too_high : Reading
   form : FormTree → Reading
 
--- the height that a tree may have
-abbrev pub highest : ℕ
-highest = 100
-
--- the line has this reading
-pub data HasReading : List ℕ → Reading → Type 0 where
-  has_no_token : {line : List ℕ} {at : ℕ} → HasNoTokenAt line at → HasReading line (no_token at)
-  has_no_form :
-      {line : List ℕ} {ts : List Placed} → HasTokens line ts → ((l : FormTree) → IsForm ts l → ⊥)
-      → HasReading line no_form
+-- the line has this reading; a tree may have a height of 100
+pub data HasReading (line : List ℕ) : Reading → Type 0 where
+  has_no_token : {at : ℕ} → HasNoTokenAt line at → HasReading line (no_token at)
+  has_no_form : {ts : List Placed} → HasTokens line ts → ((l : FormTree) → IsForm ts l → ⊥) → HasReading line no_form
   has_high_form :
-      {line : List ℕ} {ts : List Placed} {l : FormTree}
-      → HasTokens line ts → IsForm ts l → highest < form_height l → HasReading line too_high
+      {ts : List Placed} {l : FormTree} → HasTokens line ts → IsForm ts l → 100 < form_height l
+      → HasReading line too_high
   has_form :
-      {line : List ℕ} {ts : List Placed} {l : FormTree}
-      → HasTokens line ts → IsForm ts l → form_height l ≤ highest → HasReading line (form l)
+      {ts : List Placed} {l : FormTree} → HasTokens line ts → IsForm ts l → form_height l ≤ 100
+      → HasReading line (form l)

@@ -1,10 +1,10 @@
 -- What is replied to a line.
-use Rattle.std.specs.Prelude.{ℕ, List, ◌++◌, Bool, true, false, Option, Some, None, codes}
+use Rattle.std.specs.Prelude.{ℕ, List, map, ◌++◌, Bool, true, false, Option, Some, None, codes}
 use Rattle.nesl_reply.specs.declared.fault.Fault.{Fault}
 use Rattle.nesl_reply.specs.declared.fault.Fault.TheVariants.{Memory, User, Busy}
 use Rattle.nesl_reply.specs.Faults.{fault_text}
 use Rattle.nesl_reply.specs.Replies.{Report, report_text}
-use Rattle.nesl_session_meaning.specs.State.{State, names_of}
+use Rattle.nesl_session_meaning.specs.State.{State}
 use Rattle.nesl_session_bindings.specs.Known.{datatypes_of}
 
 -- the bytes with their line end, the fault if there is one, and whether the line was recorded
@@ -20,7 +20,7 @@ fault_reply fault recorded = record { bytes = fault_text fault ++ codes "\n"; fa
 -- the reply to any other line, with the names of the state before it
 abbrev pub plain_reply : State → Report → Reply
 plain_reply s t = record {
-  bytes = report_text (datatypes_of s.bindings) (names_of s) t ++ codes "\n";
+  bytes = report_text (datatypes_of s.bindings) (map (λ b. b.name) s.bindings) t ++ codes "\n";
   fault = None;
   recorded = true;
 }

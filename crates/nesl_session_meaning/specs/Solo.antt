@@ -11,8 +11,7 @@ abbrev pub SessionRuns : Limits → State → List (List ℕ) → List Reply →
 SessionRuns limits s [] [] s' = s' ≡ s
 SessionRuns limits s (line ∷ lines) (reply ∷ replies) s' =
     (mid : State) × Step limits s line reply mid × SessionRuns limits mid lines replies s'
-SessionRuns limits s [] (reply ∷ replies) s' = ⊥
-SessionRuns limits s (line ∷ lines) [] s' = ⊥
+SessionRuns limits s _ _ s' = ⊥
 
 -- the state of a session is the replay of its stored lines, from the state that the last reset left
 pub record Replays (log : Log) (s : State) : Type 0 where

@@ -1,5 +1,5 @@
 -- What a session knows, and what it stores.
-use Rattle.std.specs.Prelude.{ℕ, ◌-◌, ◌+◌, List, [], map, length, sum_by}
+use Rattle.std.specs.Prelude.{ℕ, ◌-◌, ◌+◌, List, [], length, sum_by}
 use Rattle.nesl_session_bindings.specs.Meanings.{Binding, elements_of}
 use Rattle.nesl_session_meaning.specs.declared.limits.Limits.{Limits}
 use Rattle.nesl_session_meaning.specs.declared.limits.Remaining.{Remaining}
@@ -29,9 +29,6 @@ opening base cleared = record {
 -- the state before the first line
 abbrev pub empty : Limits → State
 empty limits = opening limits.session_work 0
-
-abbrev pub names_of : State → List (List ℕ)
-names_of s = map (λ b. b.name) s.bindings
 
 -- what is left of each limit
 abbrev pub remaining_of : Limits → State → Remaining

@@ -63,6 +63,12 @@ abbrev pub sum_in_two_parts : Type 0
 sum_in_two_parts =
     AreAnswered ample (codes "1 +\\" ∷ codes "1;" ∷ []) (codes "more" ∷ codes "it = 2 : int (work 3, depth 3)" ∷ []) 997
 
+-- in the body of a function, `it` is no variable of the top level
+abbrev pub it_in_a_body : Type 0
+it_in_a_body =
+    AreAnswered ample (codes "1 + 1;" ∷ codes "function g(x) = it;" ∷ [])
+    (codes "it = 2 : int (work 3, depth 3)" ∷ codes "fault unknown at 16..18 (work 0)" ∷ []) 997
+
 -- a reset gives no work back
 abbrev pub reset_after_a_sum : Type 0
 reset_after_a_sum =

@@ -1,7 +1,8 @@
 //! What holds of every step.
 ghost use Rattle.nesl_session_meaning.specs.Laws.{GoesOn, LimitsStay, LinesAreStored, OneRun, OneState, OneStep};
 ghost use Rattle.nesl_session_meaning.specs.Laws.{RecordedLinesGrow};
-ghost use Rattle.nesl_session_meaning.specs.Worked.{budget_of_none, comment, names_of_none, no_room_for_a_line};
+ghost use Rattle.nesl_session_meaning.specs.Worked.{budget_of_none, comment, it_in_a_body, names_of_none};
+ghost use Rattle.nesl_session_meaning.specs.Worked.{no_room_for_a_line};
 ghost use Rattle.nesl_session_meaning.specs.Worked.{no_token, no_tree, reset_after_a_sum, reset_at_the_limit};
 ghost use Rattle.nesl_session_meaning.specs.Worked.{small_sum, sum_in_two_parts, sum_over_the_work_of_a_line};
 ghost use Rattle.nesl_session_meaning.specs.Worked.{sum_without_room, unknown_name};
@@ -69,6 +70,7 @@ pub fn worked_lines()
     ensures work { sum_over_the_work_of_a_line }
     ensures elements { sum_without_room }
     ensures parts { sum_in_two_parts }
+    ensures body { it_in_a_body }
     ensures reset { reset_after_a_sum }
     ensures transcript { no_room_for_a_line }
     ensures limit { reset_at_the_limit }

@@ -20,7 +20,7 @@ use Rattle.nesl_session_meaning.specs.State.{State, empty}
 use Rattle.nesl_session_meaning.specs.Reading.{no_token, no_form, form}
 use Rattle.nesl_session_meaning.specs.Finding.{Finding, FindsReading, FindsOutcome, budget, reset, part, refused, answered, budget_report}
 use Rattle.nesl_session_meaning.specs.Finding.{room, no_room, a_value, too_much_work, variable_untyped, an_unknown_name}
-use Rattle.nesl_session_meaning.specs.Finding.{of_nothing, of_names, of_budget, of_expression, lexical, syntax, has_tree}
+use Rattle.nesl_session_meaning.specs.Finding.{of_nothing, of_names, of_budget, of_expression, of_no_function, lexical, syntax, has_tree}
 use Rattle.nesl_session_meaning.specs.Step.{after, reply_of}
 use Rattle.nesl_session_meaning.specs.Worked.{ample}
 use Rattle.nesl_session_meaning.proofs.Typed.{plus, plus_type, two, finds_number}
@@ -120,6 +120,22 @@ returns-clause-parts c =
     step_reading ample mid (codes "1;") (form sum) summed refl refl refl refl (formed c.reading_computes.ensures c.form_computes.ensures (codes "1 + 1;") sum refl refl (lit≤ tt))
     (finds_sum ample mid summed refl (a_value (room (lit≤ tt)))) in
     (reply_of (empty ample) part ∷ reply_of mid summed ∷ [], after (codes "1;") mid summed, (mid, first, (after (codes "1;") mid summed, second, refl)), refl, refl)
+
+pub returns-clause-body : goal.returns-clause-body
+unfolding digits
+returns-clause-body c =
+    let sum_line = codes "1 + 1;" in
+    let line = codes "function g(x) = it;" in
+    let body : FormTree = trees.function (codes "g") (trees.pattern (at 10 13) (trees.name_pattern (codes "x"))) None (trees.node (at 16 18) (trees.variable (codes "it"))) in
+    let refusal : Finding = refused (faults.Unknown (at 16 18)) 0 in
+    let one : State = after sum_line (empty ample) summed in
+    let first =
+    step_reading ample (empty ample) sum_line (form sum) summed refl refl refl refl (formed c.reading_computes.ensures c.form_computes.ensures (codes "1 + 1;") sum refl refl (lit≤ tt))
+    (finds_sum ample (empty ample) summed refl (a_value (room (lit≤ tt)))) in
+    let second =
+    step_reading ample one line (form body) refusal refl refl refl refl
+    (formed c.reading_computes.ensures c.form_computes.ensures (codes "function g(x) = it;") body refl refl (lit≤ tt)) (has_tree (of_no_function {v = unknown_at (at 16 18)} refl an_unknown_name)) in
+    (reply_of (empty ample) summed ∷ reply_of one refusal ∷ [], after line one refusal, (one, first, (after line one refusal, second, refl)), refl, refl)
 
 pub returns-clause-reset : goal.returns-clause-reset
 unfolding digits

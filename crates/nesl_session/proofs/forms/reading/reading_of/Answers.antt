@@ -7,7 +7,7 @@ use Rattle.nesl_lex.specs.Faults.{OnLexical}
 use Rattle.nesl_syntax_tree.specs.Trees.{FormTree, form_height}
 use Rattle.nesl_syntax_tree.specs.Lines.{IsForm}
 use Rattle.nesl_syntax_tree.specs.Views.{line_of}
-use Rattle.nesl_session_meaning.specs.Reading.{HasReading, no_token, has_no_token, has_no_form, has_high_form, has_form, highest}
+use Rattle.nesl_session_meaning.specs.Reading.{HasReading, no_token, has_no_token, has_no_form, has_high_form, has_form}
 use Rattle.nesl_session.proofs.forms.reading.reading_of.Goals as goal
 
 pub returns-in-Err-Lexical : goal.returns-in-Err-Lexical
@@ -28,6 +28,6 @@ returns-in-Err-Syntax c =
 
 pub returns-in-Err-Nested : goal.returns-in-Err-Nested
 returns-in-Err-Nested c =
-    let P : List Token → Type 0 = λ x. (line : FormTree) × IsForm (placed x) line × (highest < form_height line) in
+    let P : List Token → Type 0 = λ x. (line : FormTree) × IsForm (placed x) line × (100 < form_height line) in
     let high = subst P c.as_slice.ensures.value (c.in-Err-Nested.ensures.nested (ap Err c.in-Err-Nested.field-0-is)) in
     has_high_form c.in-Ok.ensures.found high.1 high.2

@@ -9,7 +9,7 @@ use Rattle.nesl_session_bindings.proofs.bindings.Bindings.fits_function.Goals as
 pub returns-in-Some : goal.returns-in-Some
 returns-in-Some c = λ f p.
     let left : c.in-Some.room + other_elements c.args.name.now (bindings_of c.args.self.now) ≡ c.args.limit = omega (arith, c.in-Some.ensures, c.other_elements.ensures) in
-    c.is_some.ensures ∙ fits_left c.args.name.now (function f p (tree_of c.args.body.now)) (bindings_of c.args.self.now) c.args.limit c.in-Some.room c.room_left.result left c.room_left.ensures
+    c.is_some.ensures ∙ fits_left c.args.name.now (function f p (tree_of c.args.body.now)) (bindings_of c.args.self.now) c.args.limit c.in-Some.room c.left_after.result left c.left_after.ensures
 
 pub returns-in-None : goal.returns-in-None
 returns-in-None c = λ f p.

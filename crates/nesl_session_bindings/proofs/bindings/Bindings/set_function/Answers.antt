@@ -4,8 +4,7 @@ use Rattle.nesl_syntax_tree.specs.Views.{pattern_tree, tree_of}
 use Rattle.nesl_builtins.specs.FunctionTypes.{function_type}
 use Rattle.nesl_eval_top_level.specs.declared.env.Payload.TheVariants as payload
 use Rattle.nesl_eval_top_level.specs.Stored.{top_of}
-use Rattle.nesl_session_bindings.specs.Nodes.{expression_nodes}
-use Rattle.nesl_session_bindings.specs.Meanings.{function}
+use Rattle.nesl_session_bindings.specs.Meanings.{function, nodes_in}
 use Rattle.nesl_session_bindings.specs.Stored.{bindings_of}
 use Rattle.nesl_session_bindings.proofs.Counts.{put_elements}
 use Rattle.nesl_session_bindings.proofs.Kept.{set_is, few_enough, function_set}
@@ -13,7 +12,7 @@ use Rattle.nesl_session_bindings.proofs.bindings.Bindings.set_function.Goals as 
 
 pub nodes-requires : goal.nodes-requires
 nodes-requires c =
-    let body : expression_nodes (tree_of c.args.body) < 2 ^ 64 =
+    let body : nodes_in (tree_of c.args.body) < 2 ^ 64 =
     omega (arith, c.requires.room, put_elements c.args.name.now (function (function_type c.args.scheme) (pattern_tree c.args.pattern) (tree_of c.args.body)) (bindings_of c.args.self.now)) in
     body
 

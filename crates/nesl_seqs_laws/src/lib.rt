@@ -1,0 +1,4 @@
+//! What functions on sequences evaluate to, in words that no code needs.
+#![tactic(auto)]
+
+pub mod laws;
