@@ -11,7 +11,7 @@ use Rattle.nesl_session_meaning.specs.State.{State, Log}
 use Rattle.nesl_session_meaning.specs.Response.{Reply, no_memory, no_user, is_memory}
 use Rattle.nesl_session_meaning.specs.Solo.{Replays, SessionAnswers, Responds}
 use Rattle.nesl_session_meaning.specs.Laws.{GoesOn, OneRun, OneState}
-use Rattle.nesl_house.specs.Script.{Event, lines_of, replies_of, own_events, kept_events}
+use Rattle.nesl_house.specs.Script.{Event, lines_of, replies_of, kept_events}
 use Rattle.nesl_house.specs.Laws.{ScriptsFollow, SameBindings, OwnLinesDecide}
 use Rattle.nesl_house.specs.Runs.{Account, roster_of, session_of, AllReplay, RunsAlone, IsReplied, Runs}
 
@@ -56,7 +56,7 @@ stays_none None new es a e = a
 stays_none (Some log) new es a e = absurd (cc)
 
 pub kept-append : (user : List ℕ) (es fs : List Event) → kept_events user (es ++ fs) ≡ kept_events user es ++ kept_events user fs
-kept-append user es fs = ap (filter (λ (e : Event). not (is_memory e.reply))) (filter-append (λ (e : Event). bytes_eq e.user user) es fs) ∙ filter-append (λ (e : Event). not (is_memory e.reply)) (own_events user es) (own_events user fs)
+kept-append user es fs = ap (filter (λ (e : Event). not (is_memory e.reply))) (filter-append (λ (e : Event). bytes_eq e.user user) es fs) ∙ filter-append (λ (e : Event). not (is_memory e.reply)) (filter (λ (e : Event). bytes_eq e.user user) es) (filter (λ (e : Event). bytes_eq e.user user) fs)
 
 -- one script after another
 pub runs_then : GoesOn → ScriptsFollow
@@ -82,12 +82,11 @@ alone_decided one_run one two session es fs after_one after_two p q e f same =
 
 -- one session has one list of bindings
 pub same_bindings : OneState → (house other : List Account) (user : List ℕ) → session_of house user ≡ session_of other user → SameBindings house other user
-same_bindings one_state house other user e bindings others a b =
-    let both : Some a.session ≡ Some b.session = sym a.has ∙ e ∙ b.has in
-    let same : a.session ≡ b.session = cc in
-    let P : Log → Type 0 = λ x. Replays x b.state in
-    let state = one_state a.session a.state b.state a.replayed (subst P (sym same) b.replayed) in
-    a.are ∙ ap (λ (s : State). s.bindings) state ∙ sym b.are
+same_bindings one_state house other user e one two s t p q r u =
+    let both : Some one ≡ Some two = sym p ∙ e ∙ q in
+    let same : one ≡ two = cc in
+    let P : Log → Type 0 = λ x. Replays x t in
+    ap (λ (x : State). x.bindings) (one_state one s t r (subst P (sym same) u))
 
 pub own_lines : OneRun → OneState → OwnLinesDecide
 own_lines one_run one_state one two after_one after_two said_one said_two user session p q e f same =

@@ -6,3 +6,4 @@ pub mod Laws
 pub mod Slots
 pub mod Register
 pub mod Table
+pub mod Renewal

@@ -3,6 +3,7 @@ use Rattle.std.specs.Prelude.{◌≡◌, ◌≢◌, ℕ, ◌≤◌, List, [], �
 use Rattle.std.specs.Prelude.{length, map, All, AllPairs, Contains, Option, position}
 use Rattle.std.specs.List.{list_all}
 use Rattle.std.specs.Str.{bytes_eq}
+pub use Rattle.nesl_lex.specs.Lexemes.{is_digit}
 use Rattle.nesl_session_meaning.specs.declared.limits.Limits.{Limits}
 use Rattle.nesl_session_meaning.specs.State.{empty_log}
 use Rattle.nesl_house.specs.declared.roster.NewFault.{NewFault}
@@ -12,10 +13,6 @@ use Rattle.nesl_house.specs.Runs.{Account}
 -- a to z
 abbrev pub is_small_letter : ℕ → Bool
 is_small_letter b = nat_le 97 b && nat_le b 122
-
--- 0 to 9
-abbrev pub is_digit : ℕ → Bool
-is_digit b = nat_le 48 b && nat_le b 57
 
 abbrev pub begins_with_letter : List ℕ → Bool
 begins_with_letter [] = false
@@ -58,10 +55,6 @@ pub data IsRefused (names : List (List ℕ)) : NewFault → Type 0 where
       → is_user_name it ≡ true → Contains before it → IsRefused names (Twice (length before))
   no_memory_left : IsRoster names → IsRefused names Memory
 
--- an account with an empty session
-abbrev pub new_account : Limits → List ℕ → Account
-new_account limits name = record { name = name; session = empty_log limits }
-
 -- the house in which each of these users has an empty session
 abbrev pub new_house : Limits → List (List ℕ) → List Account
-new_house limits names = map (new_account limits) names
+new_house limits names = map (λ name. record { name = name; session = empty_log limits }) names

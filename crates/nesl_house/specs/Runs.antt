@@ -2,7 +2,6 @@
 use Rattle.std.specs.Prelude.{◌≡◌, ℕ, List, [], ◌∷◌, Option, Some, None, true, map, if◌then◌else◌}
 use Rattle.std.specs.List.{AllByRecursion}
 use Rattle.std.specs.Str.{bytes_eq}
-use Rattle.nesl_session_bindings.specs.Meanings.{Binding}
 use Rattle.nesl_session_meaning.specs.State.{State, Log}
 use Rattle.nesl_session_meaning.specs.Response.{no_memory, no_user, is_memory}
 use Rattle.nesl_session_meaning.specs.Solo.{Replays, SessionAnswers}
@@ -26,14 +25,6 @@ session_of (account ∷ accounts) user =
 -- each session is the replay of the lines that it stored
 abbrev pub AllReplay : List Account → Type 0
 AllReplay house = AllByRecursion (λ account. (s : State) × Replays account.session s) house
-
--- the bindings of this user's session, by the replay of the lines that it stored
-pub record HasBindings (house : List Account) (user : List ℕ) (bindings : List Binding) : Type 0 where
-  pub session : Log
-  pub state : State
-  pub has : session_of house user ≡ Some session
-  pub replayed : Replays session state
-  pub are : bindings ≡ state.bindings
 
 -- To one user the house is a session that no one else uses. Alone, the session `old` answers these lines by these
 -- replies, and becomes what the user has afterwards. A stranger has no session, and gets none.

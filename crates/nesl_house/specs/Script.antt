@@ -15,10 +15,7 @@ lines_of events = map (λ e. e.line) events
 abbrev pub replies_of : List Event → List Reply
 replies_of events = map (λ e. e.reply) events
 
--- the lines of this user with their replies, in order
-abbrev pub own_events : List ℕ → List Event → List Event
-own_events user events = filter (λ e. bytes_eq e.user user) events
-
--- of these, the ones that were kept: a line that is refused because memory ran out counts as not said
+-- the lines of this user that were kept, with their replies, in order: a line that is refused because memory ran out
+-- counts as not said
 abbrev pub kept_events : List ℕ → List Event → List Event
-kept_events user events = filter (λ e. not (is_memory e.reply)) (own_events user events)
+kept_events user events = filter (λ e. not (is_memory e.reply)) (filter (λ e. bytes_eq e.user user) events)

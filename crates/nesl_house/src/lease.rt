@@ -1,9 +1,11 @@
 //! A seat that is taken out of the table.
-ghost use Rattle.std.specs.Prelude.{◌≡◌, ◌+◌};
+ghost use Rattle.std.specs.Prelude.{◌≡◌, ◌+◌, ◌<◌, OnErr, OnOk};
 ghost use Rattle.nesl_session_meaning.specs.State.{empty_log, recorded_lines};
+ghost use Rattle.nesl_session_meaning.specs.Step.{most_recorded};
 ghost use Rattle.nesl_session_meaning.specs.Solo.{Responds};
+ghost use Rattle.nesl_house.specs.Renewal.{renewed};
 
-use crate::seat::Seat;
+use crate::seat::{Seat, TooManyLines};
 use nesl_eval_helpers::{Gate, Helpers};
 use nesl_session::answer::Answer;
 use nesl_session::laws::recorded_lines_grow;
@@ -67,7 +69,8 @@ impl Lease {
     }
 
     /// Answers one line of the session, which is evaluated in halves that threads share, where `helpers` are granted.
-    /// The call waits for these threads. Nothing else changes a session that is taken out.
+    /// The call waits for these threads. A session that is taken out is changed by this call, by `renew`, and where a
+    /// kept session comes back.
     pub fn line_split<R: Threads + Sync, H: Helpers + Sync, G: Gate + Sync>(
         &mut self,
         rt: &R,
@@ -101,6 +104,19 @@ impl Lease {
         };
         let lease = Lease::new(seat.with_session(session));
         Resumed { lease, restored }
+    }
+
+    /// Ends the session, and begins another one in its place. The lines recorded until then stay counted, and the
+    /// receipt of this lease is for those that came under it, as before. Nothing changes if they are too many.
+    pub fn renew(&mut self, alloc: Global) -> Result<(), TooManyLines>
+        ensures renewed { OnOk result (self.new ≡ record {
+          seat = record { place = self.old.seat.place; session = renewed self.old.seat.session };
+          counted = self.old.counted;
+        }) }
+        ensures refused { OnErr result ((self.new ≡ self.old)
+            × (most_recorded < recorded_lines self.old.seat.session)) }
+    {
+        self.seat.renew(alloc)
     }
 
     /// The seat, and the receipt for the lines that its session has recorded since the seat was taken out.

@@ -1,9 +1,12 @@
 //! The seat at a place of a table.
-ghost use Rattle.std.specs.Prelude.{◌≡◌, ◌<◌, IfOk};
-ghost use Rattle.nesl_session_meaning.specs.State.{empty_log};
+ghost use Rattle.std.specs.Prelude.{◌≡◌, ◌<◌, IfOk, OnErr, OnOk};
+ghost use Rattle.nesl_session_meaning.specs.State.{empty_log, recorded_lines};
+ghost use Rattle.nesl_session_meaning.specs.Step.{most_recorded};
 ghost use Rattle.nesl_session_meaning.specs.Solo.{Responds};
+ghost use Rattle.nesl_house.specs.Renewal.{renewed};
 
 use nesl_eval_helpers::{Gate, Helpers};
+use nesl_session::MOST_RECORDED;
 use nesl_session::answer::Answer;
 use nesl_session::limits::Limits;
 use nesl_session::session::Session;
@@ -13,7 +16,7 @@ use std::thread::Threads;
 
 /// A place of a table, and the session that answers lines there. A session never changes its seat: the seat is made
 /// with an empty session, and lends it for one line at a time. Only a session that was kept elsewhere may replace it,
-/// while it is empty.
+/// while it is empty, or a new one that has all work left, when the old one ends.
 pub struct Seat {
     place: usize,
     session: Session,
@@ -37,6 +40,10 @@ impl Model for Seat {
 
     ghost invariant = { λ s. s.place < 64 };
 }
+
+/// More lines were recorded at a seat than a new session there could count as cleared.
+#[derive(Clone, Copy, PartialEq, Eq, Debug)]
+pub struct TooManyLines;
 
 impl Seat {
     /// The seat of a place, with an empty session.
@@ -75,6 +82,23 @@ impl Seat {
         ensures place { self.new.place ≡ self.old.place }
     {
         self.session.line_split(rt, alloc, text, helpers, gate)
+    }
+
+    /// Ends the session, and begins another one in its place.
+    pub(crate) fn renew(&mut self, alloc: Global) -> Result<(), TooManyLines>
+        ensures renewed { OnOk result (self.new
+            ≡ record { place = self.old.place; session = renewed self.old.session }) }
+        ensures refused { OnErr result ((self.new ≡ self.old)
+            × (most_recorded < recorded_lines self.old.session)) }
+        ensures recorded { recorded_lines self.new.session ≡ recorded_lines self.old.session }
+    {
+        let cleared = self.session.recorded_lines();
+        if cleared > MOST_RECORDED {
+            return Err(TooManyLines);
+        }
+        let limits = self.session.limits();
+        self.session = Session::opened(alloc, limits, limits.session_work, cleared);
+        Ok(())
     }
 
     /// The same place with another session.

@@ -1,8 +1,7 @@
 //! One user of a house.
 ghost use Rattle.std.specs.Prelude.{◌≡◌, IfOk};
-ghost use Rattle.nesl_session_meaning.specs.State.{State};
+ghost use Rattle.nesl_session_meaning.specs.State.{State, empty_log};
 ghost use Rattle.nesl_session_meaning.specs.Solo.{Replays, Responds};
-ghost use Rattle.nesl_house.specs.Roster.{new_account};
 
 use crate::manner::Saying;
 use nesl_session::answer::Answer;
@@ -29,7 +28,7 @@ impl Model for User {
 impl User {
     /// A user with an empty session.
     pub(crate) fn new(alloc: Global, name: &[u8], limits: Limits) -> Result<User, AllocError>
-        ensures fresh { IfOk result (λ user. user ≡ new_account limits name.now) }
+        ensures fresh { IfOk result (λ user. user ≡ record { name = name.now; session = empty_log limits }) }
         ensures replayed { IfOk result (λ user. (state : State) × Replays user.session state) }
     {
         let name = Vec::from_slice(alloc, name)?;

@@ -48,7 +48,7 @@ device_of scroll = scroll.device
 -- the file is blocks of lines and a closed gate, all of it on the disk
 pub record IsSettled
     {D : Type 0} (seen : D → List ℕ) (may_leave : D → List ℕ → Type 0) (scroll : Scroll D) : Type 0 where
-  pub file : IsAtRest (seen scroll.device)
+  pub file : seen scroll.device ≡ at_rest (kept (seen scroll.device))
   pub end : scroll.end ≡ length (blocks (kept (seen scroll.device)))
   pub lines : AreLines (kept (seen scroll.device))
   pub durable : Only (seen scroll.device) (may_leave scroll.device)

@@ -1,12 +1,14 @@
 -- What a line does to the rows of a session.
 use Rattle.std.proofs.Common.{◌≡◌, ◌≢◌, ◌⊎◌, inl, inr, ℕ, Bool, true, false, ◌-◌, ◌≤◌, List, [], ◌∷◌, ◌++◌, length, map, take, drop, get_or, Vec, refl, sym, ◌∙◌, ap, arith, length-append, append_assoc, append-nil}
 use Rattle.std.proofs.lemmas.List.{take_all}
+use Rattle.std.specs.Prelude.{Result, Ok, Err, OnOk}
 use Rattle.std.specs.declared.alloc.Global.{Global}
 use Rattle.nesl_session_meaning.specs.State.{Log}
 use Rattle.std.specs.Bool.{MatchBool}
 use Rattle.nesl_session_meaning.specs.Response.{Reply, no_memory, is_memory}
 use Rattle.nesl_session_meaning.specs.Solo.{SessionAnswers, Responds}
 use Rattle.nesl_session_meaning.specs.Laws.{Stores, nothing, the_line, reset}
+use Rattle.nesl_house.specs.Renewal.{renewed}
 use Rattle.nesl_keeper.specs.Files.{head_text, rows_of, with_rows}
 use Rattle.nesl_keeper.specs.Steps.{IsUnstored}
 
@@ -19,6 +21,15 @@ pub rows_anew : (old new : Log) (line : List ℕ) → Stores old line new → ne
 rows_anew old new line nothing other = absurd (other refl)
 rows_anew old new line the_line other = absurd (other refl)
 rows_anew old new line (reset base) other = refl
+
+-- what follows where something went well
+pub on_ok_map : {A E T U : Type 0} (result : Result A E) → OnOk result T → (T → U) → OnOk result U
+on_ok_map (Ok x) t leads = leads t
+on_ok_map (Err e) t leads = tt
+
+-- a session that began in the place of another one has stored nothing
+pub rows_renewed : (old new : Log) → new ≡ renewed old → head_text new.base new.cleared ∷ [] ≡ rows_of new
+rows_renewed old new is = ap (λ (lines : List (List ℕ)). head_text new.base new.cleared ∷ lines) (sym (ap (λ (log : Log). log.lines) is))
 
 pub rows_same : (old new : Log) (line : List ℕ) → Stores old line new → new.cleared ≡ old.cleared → length new.lines ≡ length old.lines → rows_of old ≡ rows_of new
 rows_same old new line nothing same count = refl

@@ -41,19 +41,18 @@ module _ {D : Type 0} (seen : D → List ℕ) (may_leave : D → List ℕ → Ty
   Keeps (Kept scroll) log = IsSettled seen may_leave scroll × (kept (seen scroll.device) ≡ rows_of log)
   Keeps stage log = ⊥
 
--- A crash at any moment between two stages leaves a file that stands for one of these sessions. When a file is opened,
--- all of it is on the disk.
-abbrev pub Leaves
-    : {D : Type 0} (seen : D → List ℕ) (may_leave : D → List ℕ → Type 0) (moment : D → ℕ)
-    (left_since : D → ℕ → List ℕ → Type 0) (old new : Stage D) (was is : Log) → Type 0
-Leaves seen may_leave moment left_since (Kept old) (Kept new) was is =
-    LeavesOnly moment left_since old.device new.device (StandsForEither was is)
-Leaves seen may_leave moment left_since (Kept old) (Failed new) was is =
-    LeavesOnly moment left_since old.device new.device (StandsForEither was is)
-Leaves {D} seen may_leave moment left_since Away (Kept new) was is =
-    (opened : D) × Only (seen opened) (may_leave opened) × StandsFor was (seen opened)
-    × LeavesOnly moment left_since opened new.device (StandsForEither was is)
-Leaves seen may_leave moment left_since old new was is = ⊥
+module _
+    {D : Type 0} (seen : D → List ℕ) (may_leave : D → List ℕ → Type 0) (moment : D → ℕ)
+    (left_since : D → ℕ → List ℕ → Type 0) where
+  -- A crash at any moment between two stages leaves a file that stands for one of these sessions. When a file is
+  -- opened, all of it is on the disk.
+  abbrev pub Leaves : (old new : Stage D) (was is : Log) → Type 0
+  Leaves (Kept old) (Kept new) was is = LeavesOnly moment left_since old.device new.device (StandsForEither was is)
+  Leaves (Kept old) (Failed new) was is = LeavesOnly moment left_since old.device new.device (StandsForEither was is)
+  Leaves Away (Kept new) was is =
+      (opened : D) × Only (seen opened) (may_leave opened) × StandsFor was (seen opened)
+      × LeavesOnly moment left_since opened new.device (StandsForEither was is)
+  Leaves old new was is = ⊥
 
 -- the disk has failed, or memory has run out
 abbrev pub HasFailed : {D : Type 0} → Stage D → Type 0

@@ -2,6 +2,7 @@
 ghost use Rattle.std.specs.Prelude.{◌≡◌, ◌++◌, ◌∷◌, [], IfNone, IfOk, IfSome, None, OnOk, map, true};
 ghost use Rattle.nesl_session_meaning.specs.State.{Log, empty_log};
 ghost use Rattle.nesl_session_meaning.specs.Response.{Reply};
+ghost use Rattle.nesl_house.specs.Renewal.{renewed};
 ghost use Rattle.nesl_keep.specs.Device.{LeavesOnly, Only};
 ghost use Rattle.nesl_keep.specs.Scroll.{device_of, kept, HasSameLines};
 ghost use Rattle.nesl_keep.specs.Scroll.{IsBeforeOrAfter, IsBeforeOrAnew, IsLine, IsSettled};
@@ -127,6 +128,21 @@ impl<F: Folder> Keeper for FileKeeper<'_, F> {
             Stage::Kept(scroll) => {
                 let mut scroll = scroll;
                 let kept = keep_line(&mut scroll, alloc, line, was, session);
+                self.stage = match kept {
+                    Ok(()) => Stage::Kept(scroll),
+                    Err(_) => Stage::Failed(scroll),
+                };
+                kept
+            }
+            Stage::Away | Stage::Failed(_) => unreachable!(),
+        }
+    }
+
+    fn renew(&mut self, alloc: Global, session: &Session) -> Result<(), KeepFault> {
+        match mem::replace(&mut self.stage, Stage::Away) {
+            Stage::Kept(scroll) => {
+                let mut scroll = scroll;
+                let kept = keep_renewed(&mut scroll, alloc, session);
                 self.stage = match kept {
                     Ok(()) => Stage::Kept(scroll),
                     Err(_) => Stage::Failed(scroll),
@@ -318,6 +334,23 @@ fn restart<D: Device>(
         Ok(()) => Ok(()),
         Err(error) => Err(fault_of(error)),
     }
+}
+
+// Has in the file a session that began in the place of the one that the file has.
+fn keep_renewed<D: Device>(
+    scroll: &mut Scroll<D>,
+    alloc: Global,
+    session: &Session,
+) -> Result<(), KeepFault>
+    requires settled { IsSettled D.seen D.may_leave scroll.old }
+    ensures settled { OnOk result (IsSettled D.seen D.may_leave scroll.new) }
+    ensures kept { OnOk result ((old : Log) → session.now ≡ renewed old
+        → kept (D.seen (device_of scroll.new)) ≡ rows_of session.now) }
+    ensures left { (old : Log) → kept (D.seen (device_of scroll.old)) ≡ rows_of old → session.now ≡ renewed old
+        → LeavesOnly D.moment D.left_since (device_of scroll.old) (device_of scroll.new)
+        (StandsForEither old session.now) }
+{
+    restart(scroll, alloc, session)
 }
 
 // Fails if there is a line feed in it. Lines that come from a stream, and heads, have none.

@@ -1,7 +1,7 @@
 //! The texts of lines and their answers.
 ghost use Rattle.std.specs.Prelude.{◌≡◌, ◌⊎◌, ◌++◌, ◌∷◌, [], List, ℕ, IfOk, codes, map};
 ghost use Rattle.csv.specs.Writing.{default_writer, row_text};
-ghost use Rattle.nesl_kept.specs.Rows.{TellsLine, TellsRow};
+ghost use Rattle.nesl_kept.specs.Rows.{IsShown, TellsLine, TellsRow};
 
 use crate::again::{Teller, Unheard};
 use crate::cells::{cells_of, cells_of_fault};
@@ -46,7 +46,8 @@ impl Teller for LineTeller {
 }
 
 fn make_line(alloc: Global, line: &[u8]) -> Result<Vec<u8>, AllocError>
-    ensures { IfOk result (λ text. (shown : List ℕ) × (text.items ≡ codes "> " ++ shown ++ 10 ∷ [])) }
+    ensures { IfOk result
+        (λ text. (shown : List ℕ) × IsShown line.now shown × (text.items ≡ codes "> " ++ shown ++ 10 ∷ [])) }
 {
     let mut text = Vec::from_slice(alloc, b"> ")?;
     text.extend_from_slice(shown(alloc, line)?.as_slice())?;

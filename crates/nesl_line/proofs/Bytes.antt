@@ -1,6 +1,6 @@
 -- Bytes that are read, cut into lines, and written.
 use Rattle.std.proofs.Common.{◌≡◌, ◌≢◌, ℕ, ◌+◌, ◌-◌, ◌<◌, ◌≤◌, ◌==◌, List, [], ◌∷◌, ◌++◌, Bool, true, false, not, cond, Option, Some, None, length, take, drop, refl, sym, ap, ◌∙◌, subst, arith, zero, suc, append_assoc, append-nil, length-append, slice_index, nat_lt, min, ⊎_elim, add-one}
-use Rattle.std.specs.Prelude.{flat_map}
+use Rattle.std.specs.Prelude.{flat_map, if◌then◌else◌}
 use Rattle.std.specs.List.{AllByRecursion}
 use Rattle.std.specs.Io.KnownBytes.{Consumes, Appends, Keeps}
 use Rattle.std.proofs.lemmas.Grind.{flat_map-append}
@@ -10,6 +10,10 @@ use Rattle.std.proofs.lemmas.Bool.{le-ltb, lt-ltb, ltb-true, ltb-false, eqb-true
 use Rattle.nesl_line.specs.Steps.{Sent}
 use Rattle.nesl_line.specs.Lines.{HasNoFeed, with_feed, Splits, handed, most_handed}
 use Rattle.std.proofs.lemmas.List.{length-drop}
+
+-- what is handed on of the rest of a text that has ended
+abbrev pub last_line : List ℕ → List (List ℕ)
+last_line rest = if length rest == 0 then [] else take most_handed rest ∷ []
 
 -- nothing more
 pub appends_none : (o : Option (List ℕ)) → Appends o o []

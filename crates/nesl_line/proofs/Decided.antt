@@ -6,7 +6,7 @@ use Rattle.std.specs.Str.{bytes_eq}
 use Rattle.std.proofs.lemmas.Slice.Eq.{bytes_eq-Decides}
 use Rattle.nesl_session_meaning.specs.State.{Log}
 use Rattle.nesl_session_meaning.specs.Response.{is_memory}
-use Rattle.nesl_house.specs.Script.{Event, lines_of, replies_of, own_events, kept_events}
+use Rattle.nesl_house.specs.Script.{Event, lines_of, replies_of, kept_events}
 use Rattle.nesl_house.specs.Laws.{OwnLinesDecide}
 use Rattle.nesl_house.specs.Runs.{Account, session_of}
 use Rattle.nesl_line.specs.Conversation.{IsUserLine, Turn, selects, stranger, nobody, says, Conversation, silence, goes_on}
@@ -90,7 +90,7 @@ kept_here true e own h = ap (λ x. cond (not x) (e ∷ filter (λ (y : Event). n
 kept_here false e own h = refl
 
 kept_cons : (user : List ℕ) (e : Event) (es : List Event) → is_memory e.reply ≡ false → kept_events user (e ∷ es) ≡ cond (bytes_eq e.user user) (e ∷ kept_events user es) (kept_events user es)
-kept_cons user e es h = kept_here (bytes_eq e.user user) e (own_events user es) h
+kept_cons user e es h = kept_here (bytes_eq e.user user) e (filter (λ (x : Event). bytes_eq x.user user) es) h
 
 lines_same : (b : Bool) (e f : Event) (xs ys : List Event) → e.line ≡ f.line → lines_of xs ≡ lines_of ys → lines_of (cond b (e ∷ xs) xs) ≡ lines_of (cond b (f ∷ ys) ys)
 lines_same true e f xs ys h k = λ i. h i ∷ k i

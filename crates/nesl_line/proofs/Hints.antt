@@ -1,12 +1,10 @@
 -- Hints below answers.
-use Rattle.std.proofs.Common.{◌≡◌, ◌≢◌, ℕ, ◌≤◌, List, [], ◌∷◌, ◌++◌, Bool, true, false, Option, None, map, refl, sym, ap, ◌∙◌, subst, cond, arith}
-use Rattle.std.specs.Prelude.{codes, nat_lt, if◌then◌else◌}
+use Rattle.std.proofs.Common.{◌≡◌, ◌≢◌, ℕ, ◌≤◌, List, [], ◌∷◌, ◌++◌, Bool, true, false, map, refl, ap, ◌∙◌, cond, arith}
+use Rattle.std.specs.Prelude.{nat_lt}
 use Rattle.std.proofs.lemmas.Bool.{ltb-false}
-use Rattle.nesl_house.specs.Runs.{Account, AllReplay}
 use Rattle.nesl_line.specs.Lines.{HasNoFeed}
-use Rattle.nesl_line.specs.Steps.{chosen, HintedTo, TalkedTo}
-use Rattle.nesl_line.specs.Hinted.{HasHint, HaveHints, IsHintLine, shown}
-use Rattle.nesl_line.proofs.Turns.{talked_none}
+use Rattle.nesl_line.specs.Exchange.{Hearing}
+use Rattle.nesl_line.specs.Hinted.{HasHint, HaveHints, IsHintLine, WithHints, shown}
 
 is_no_feed : (b : ℕ) (small : Bool) → nat_lt b 32 ≡ small → cond small 32 b ≢ 10
 is_no_feed b true e = λ (same : 32 ≡ 10). absurd (omega (arith, same))
@@ -17,25 +15,29 @@ pub shown_no_feed : (bytes : List ℕ) → HasNoFeed (map shown bytes)
 shown_no_feed [] = tt
 shown_no_feed (b ∷ bs) = (is_no_feed b (nat_lt b 32) refl, shown_no_feed bs)
 
-have_more : (answers texts : List (List ℕ)) (answer text : List ℕ) → HaveHints answers texts → HasHint answer text → HaveHints (answers ++ answer ∷ []) (texts ++ text ∷ [])
-have_more [] [] answer text h one = (one, tt)
-have_more [] (t ∷ ts) answer text h one = absurd h
-have_more (a ∷ more) [] answer text h one = absurd h
-have_more (a ∷ more) (t ∷ ts) answer text h one = (h.0, have_more more ts answer text h.1 one)
+have_more : (front : List ℕ) (answers texts : List (List ℕ)) (answer text : List ℕ) → HaveHints front answers texts → HasHint front answer text → HaveHints front (answers ++ answer ∷ []) (texts ++ text ∷ [])
+have_more front [] [] answer text h one = (one, tt)
+have_more front [] (t ∷ ts) answer text h one = absurd h
+have_more front (a ∷ more) [] answer text h one = absurd h
+have_more front (a ∷ more) (t ∷ ts) answer text h one = (h.0, have_more front more ts answer text h.1 one)
 
 -- one line more was heard
-pub hints_more : (start house' : List Account) (who' : Option (List ℕ)) (lines texts answers : List (List ℕ)) (line answer text : List ℕ) → TalkedTo start (lines ++ line ∷ []) (answers ++ answer ∷ []) who' house' → HaveHints answers texts → HasHint answer text
-    → HintedTo start (lines ++ line ∷ []) (texts ++ text ∷ []) who' house'
-hints_more start house' who' lines texts answers line answer text t hints one = (record { answers = answers ++ answer ∷ []; talked = t.0; hints = have_more answers texts answer text hints one }, t.1)
+pub hints_more : (front : List ℕ) (Heard : Hearing) (lines texts answers : List (List ℕ)) (line answer text : List ℕ) → Heard (lines ++ line ∷ []) (answers ++ answer ∷ []) → HaveHints front answers texts → HasHint front answer text
+    → WithHints front Heard (lines ++ line ∷ []) (texts ++ text ∷ [])
+hints_more front Heard lines texts answers line answer text heard hints one = record { answers = answers ++ answer ∷ []; heard = heard; hints = have_more front answers texts answer text hints one }
 
 -- nothing was heard yet
-pub hints_none : (house : List Account) (items : List ℕ) → AllReplay house → items ≡ [] → HintedTo house [] [] (chosen items) house
-hints_none house items all e = let t = talked_none house items all e in (record { answers = []; talked = t.0; hints = tt }, t.1)
+pub hints_none : (front : List ℕ) (Heard : Hearing) → Heard [] [] → WithHints front Heard [] []
+hints_none front Heard heard = record { answers = []; heard = heard; hints = tt }
 
--- the line of a sentence
-pub hint_line_of : (more front bytes : List ℕ) → front ≡ codes "hint: " → more ≡ front ++ map shown bytes ++ 10 ∷ [] → IsHintLine more
-hint_line_of more front bytes f e = record {
-  sentence = map shown bytes;
+-- something else that holds of what was heard
+pub hints_as : (front : List ℕ) (Heard Other : Hearing) (lines texts : List (List ℕ)) → (h : WithHints front Heard lines texts) → Other lines h.answers → WithHints front Other lines texts
+hints_as front Heard Other lines texts h other = record { answers = h.answers; heard = other; hints = h.hints }
+
+-- the line of a hint
+pub hint_line_of : (front more begun bytes : List ℕ) → begun ≡ front → more ≡ begun ++ map shown bytes ++ 10 ∷ [] → IsHintLine front more
+hint_line_of front more begun bytes f e = record {
+  rest = map shown bytes;
   one_line = shown_no_feed bytes;
   spelled = e ∙ ap (λ x. x ++ map shown bytes ++ 10 ∷ []) f;
 }

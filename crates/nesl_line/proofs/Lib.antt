@@ -6,5 +6,6 @@ pub mod Exchanges
 pub mod Texts
 pub mod Unique
 pub mod Decided
-pub mod Visits
 pub mod Hints
+pub mod Visits
+pub mod Renewals

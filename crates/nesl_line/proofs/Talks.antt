@@ -5,11 +5,11 @@ use Rattle.std.specs.Bool.{MatchBool}
 use Rattle.std.proofs.lemmas.List.{map-append, length-map, length-take}
 use Rattle.std.proofs.lemmas.Grind.{flat_map-append}
 use Rattle.std.specs.Io.KnownBytes.{Appends}
-use Rattle.nesl_line.specs.Lines.{HasNoFeed, handed, most_handed, last_line, AllLines, Splits, WholeLines}
+use Rattle.nesl_line.specs.Lines.{HasNoFeed, handed, most_handed, AllLines, Splits, WholeLines}
 use Rattle.nesl_line.specs.Exchange.{Hearing, text_of, WrittenInPart}
 use Rattle.nesl_line.specs.declared.line.Line.{Line}
 use Rattle.nesl_line.specs.Steps.{Sent, Answered, HasFront, Progress, Ceased, Finished, WrittenWhole}
-use Rattle.nesl_line.proofs.Bytes.{splits_more, splits_feed, splits_on, appends_then}
+use Rattle.nesl_line.proofs.Bytes.{last_line, splits_more, splits_feed, splits_on, appends_then}
 
 pub text_of-push : (texts : List (List ℕ)) (text : List ℕ) → text_of (texts ++ text ∷ []) ≡ text_of texts ++ text
 text_of-push texts text = flat_map-append (λ x. x) texts (text ∷ []) ∙ ap (λ x. text_of texts ++ x) (append-nil text)

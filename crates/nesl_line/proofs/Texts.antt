@@ -5,10 +5,10 @@ use Rattle.std.proofs.lemmas.List.{map-append}
 use Rattle.nesl_house.specs.Runs.{Account}
 use Rattle.nesl_line.specs.declared.exchange.End.{End}
 use Rattle.nesl_line.specs.declared.exchange.End.TheVariants.{Input, ReadFault, WriteFault, NoMemory}
-use Rattle.nesl_line.specs.Lines.{handed, last_line, AllLines, WholeLines}
+use Rattle.nesl_line.specs.Lines.{handed, AllLines, WholeLines}
 use Rattle.nesl_line.specs.Exchange.{AreFirst, Exchanged, Ended, by_their_feeds, by_the_end, text_of}
 use Rattle.nesl_line.specs.Batch.{AnswersAll, AnswersFirst, IsBatch}
-use Rattle.nesl_line.proofs.Bytes.{splits_none, splits_on}
+use Rattle.nesl_line.proofs.Bytes.{last_line, splits_none, splits_on}
 use Rattle.nesl_line.proofs.Exchanges.{streams_of}
 
 -- a text of which so much was read

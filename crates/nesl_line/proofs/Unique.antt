@@ -8,7 +8,8 @@ use Rattle.nesl_session_meaning.specs.State.{Log}
 use Rattle.nesl_session_meaning.specs.Response.{Reply}
 use Rattle.nesl_house.specs.Script.{Event, replies_of}
 use Rattle.nesl_house.specs.Runs.{Account, roster_of, session_of}
-use Rattle.nesl_line.specs.Lines.{HasNoFeed, with_feed, Splits, handed, last_line, AllLines, WholeLines}
+use Rattle.nesl_line.specs.Lines.{HasNoFeed, with_feed, Splits, handed, AllLines, WholeLines}
+use Rattle.nesl_line.proofs.Bytes.{last_line}
 use Rattle.nesl_line.specs.Conversation.{IsUserLine, Turn, selects, stranger, nobody, says, Conversation, silence, goes_on}
 
 -- bytes without an LF have none inside

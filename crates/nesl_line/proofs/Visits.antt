@@ -30,9 +30,11 @@ use Rattle.nesl_line.specs.Exchange.{Hearing, Streams, IsExchange}
 use Rattle.nesl_line.specs.Guest.{NamesPlace, Visits, IsHeard, silence, seated}
 use Rattle.nesl_line.specs.Keeping as keeping
 use Rattle.nesl_line.specs.Keeping.{KeptSince, LosesLine, IsHeardAndKept}
-use Rattle.nesl_line.specs.Serve.{IsServed, IsServedAndKept}
+use Rattle.nesl_line.specs.Hinted.{WithHints, json_front}
+use Rattle.nesl_line.specs.Serve.{IsHeardWithHints, IsServed}
 use Rattle.nesl_line.specs.Visiting.{IsSeated, HasLost, HeardAt, is_over, SessionAnswersLine, HasReceipt, Attends}
 use Rattle.nesl_line.proofs.Exchanges.{heard_as}
+use Rattle.nesl_line.proofs.Hints.{hints_as}
 
 -- the number of these that are replies to recorded lines
 abbrev recorded_among : List Reply → ℕ
@@ -166,7 +168,7 @@ module _ {K : Type 0} (keeps : K → Log → Type 0) (leaves : K → K → Log �
 
   -- an exchange of one user, at its end, where a keeper never fails
   served_by : ((k : K) → has_failed k → ⊥) → (stage : Stage) (receipt : Option Receipt) (end : End) (count : ℕ) (streams : Streams) → HasReceipt stage receipt → IsExchange (At stage) (is_over stage) end count streams
-      → IsServed roster limits (record { lines = count; receipt = receipt; end = end }) streams
+      → IsServed (IsHeard roster limits) (record { lines = count; receipt = receipt; end = end }) streams
   served_by never Waiting None end count streams g x =
       (false, heard_as (At Waiting) (IsHeard roster limits None false) false end count streams x (nothing_came roster limits x.passed.lines x.passed.texts (x.heard.0, x.heard.1)))
   served_by never Waiting (Some receipt) end count streams g x = absurd (cc)
@@ -185,42 +187,41 @@ module _ {K : Type 0} (keeps : K → Log → Type 0) (leaves : K → K → Log �
       let Q : ℕ → Type 0 = λ n. Visits roster limits n receipt.recorded had lease.seat.session lines texts in
       (false, heard_as (At (Seated lease)) (IsHeard roster limits (Some receipt) false) false end count streams x (seated receipt had lease.seat.session lines texts (subst Q (sym g.0) (subst P same x.heard.3))))
 
-  pub served : ((k : K) → has_failed k → ⊥) → (served : Served) (streams : Streams) → Attends keeps leaves has_failed start now roster limits served streams → IsServed roster limits served streams
+  pub served : ((k : K) → has_failed k → ⊥) → (served : Served) (streams : Streams) → Attends keeps leaves has_failed start now roster limits served streams → IsServed (IsHeard roster limits) served streams
   served never it streams a = served_by never a.stage it.receipt it.end it.lines streams a.receipt a.exchanged
 
   -- the same of a keeper that may fail
   abbrev Kept : Option Receipt → Bool → Hearing
   Kept receipt over lines texts = IsHeardAndKept keeps leaves roster limits start now receipt over lines texts
 
-  kept_by : (stage : Stage) (receipt : Option Receipt) (end : End) (count : ℕ) (streams : Streams) → HasReceipt stage receipt → IsExchange (At stage) (is_over stage) end count streams
-      → IsServedAndKept keeps leaves start now roster limits (record { lines = count; receipt = receipt; end = end }) streams
-  kept_by Waiting None end count streams g x =
-      (false, heard_as (At Waiting) (Kept None false) false end count streams x (keeping.nobody false x.passed.lines x.passed.texts (nothing_came roster limits x.passed.lines x.passed.texts (x.heard.0, x.heard.1))))
-  kept_by Waiting (Some receipt) end count streams g x = absurd (cc)
-  kept_by Over None end count streams g x = (true, heard_as (At Over) (Kept None true) true end count streams x (keeping.nobody true x.passed.lines x.passed.texts x.heard))
-  kept_by Over (Some receipt) end count streams g x = absurd (cc)
-  kept_by (Lost lease) None end count streams g x = absurd g
-  kept_by (Lost lease) (Some receipt) end count streams g x =
-      let h = x.heard in
+  -- what was heard, by the stage of a guest, was heard and kept
+  pub kept_at : (stage : Stage) (receipt : Option Receipt) (lines texts : List (List ℕ)) → HasReceipt stage receipt → At stage lines texts → Kept receipt (is_over stage) lines texts
+  kept_at Waiting None lines texts g heard = keeping.nobody false lines texts (nothing_came roster limits lines texts (heard.0, heard.1))
+  kept_at Waiting (Some receipt) lines texts g heard = absurd (cc)
+  kept_at Over None lines texts g heard = keeping.nobody true lines texts heard
+  kept_at Over (Some receipt) lines texts g heard = absurd (cc)
+  kept_at (Lost lease) None lines texts g heard = absurd g
+  kept_at (Lost lease) (Some receipt) lines texts g h =
       let P : ℕ → Type 0 = λ p. (w : Visits roster limits p h.recorded h.had h.is h.front h.told) × LosesLine keeps leaves start now h.had w.script h.line lease.seat.session in
       let both = subst P (sym g.0) (h.visits, h.loses) in
       let ends = keeping.lost receipt h.recorded h.had h.is lease.seat.session h.front h.told h.line both.0 both.1 in
       let L : List (List ℕ) → Type 0 = λ l. Kept (Some receipt) true l (h.told ++ [] ∷ []) in
-      let T : List (List ℕ) → Type 0 = λ l. Kept (Some receipt) true x.passed.lines l in
-      (true, heard_as (At (Lost lease)) (Kept (Some receipt) true) true end count streams x (subst T (sym h.got) (subst L (sym h.came) ends)))
-  kept_by (Seated lease) None end count streams g x = absurd g
-  kept_by (Seated lease) (Some receipt) end count streams g x =
-      let had = x.heard.0 in
-      let lines = x.passed.lines in
-      let texts = x.passed.texts in
-      let same : x.heard.1 ≡ receipt.recorded = omega (arith, x.heard.2, x.heard.3.grown, g.1) in
+      let T : List (List ℕ) → Type 0 = λ l. Kept (Some receipt) true lines l in
+      subst T (sym h.got) (subst L (sym h.came) ends)
+  kept_at (Seated lease) None lines texts g heard = absurd g
+  kept_at (Seated lease) (Some receipt) lines texts g heard =
+      let had = heard.0 in
+      let same : heard.1 ≡ receipt.recorded = omega (arith, heard.2, heard.3.grown, g.1) in
       let P : ℕ → Type 0 = λ n. (w : Visits roster limits lease.seat.place n had lease.seat.session lines texts) × KeptSince keeps leaves start now had w.script lease.seat.session in
       let Q : ℕ → Type 0 = λ n. (w : Visits roster limits n receipt.recorded had lease.seat.session lines texts) × KeptSince keeps leaves start now had w.script lease.seat.session in
-      let both = subst Q (sym g.0) (subst P same (x.heard.3, x.heard.4)) in
-      (false, heard_as (At (Seated lease)) (Kept (Some receipt) false) false end count streams x (keeping.seated receipt had lease.seat.session lines texts both.0 both.1))
+      let both = subst Q (sym g.0) (subst P same (heard.3, heard.4)) in
+      keeping.seated receipt had lease.seat.session lines texts both.0 both.1
 
-  pub served_and_kept : (served : Served) (streams : Streams) → Attends keeps leaves has_failed start now roster limits served streams → IsServedAndKept keeps leaves start now roster limits served streams
-  served_and_kept it streams a = kept_by a.stage it.receipt it.end it.lines streams a.receipt a.exchanged
+  pub served_and_kept : (served : Served) (streams : Streams) → Attends keeps leaves has_failed start now roster limits served streams → IsServed (IsHeardAndKept keeps leaves roster limits start now) served streams
+  served_and_kept it streams a =
+      let over = is_over a.stage in
+      let x = a.exchanged in
+      (over, heard_as (At a.stage) (Kept it.receipt over) over it.end it.lines streams x (kept_at a.stage it.receipt x.passed.lines x.passed.texts a.receipt x.heard))
 
 -- what a connection did, by a guest whose table is that of the beginning
 pub attended : {K : Type 0} (keeps : K → Log → Type 0) (leaves : K → K → Log → Log → Type 0) (has_failed : K → Type 0) (start now : K) (table first last : Register) (stage : Stage) (receipt : Option Receipt) (end : End) (count : ℕ) (streams : Streams)
@@ -232,6 +233,20 @@ attended keeps leaves has_failed start now table first last stage receipt end co
     let Before : Hearing = λ lines texts. (last ≡ first) × After first lines texts in
     let P : Register → Type 0 = λ t. IsExchange (After t) (is_over stage) end count streams in
     record { stage = stage; receipt = g; exchanged = subst P e (heard_as Before (After first) (is_over stage) end count streams x x.heard.1) }
+
+-- what a connection with hints did, by a guest whose table is that of the beginning
+pub hinted : {K : Type 0} (keeps : K → Log → Type 0) (leaves : K → K → Log → Log → Type 0) (has_failed : K → Type 0) (start now : K) (table first last : Register) (stage : Stage) (served : Served) (streams : Streams)
+    → first ≡ table → HasReceipt stage served.receipt
+    → IsExchange (WithHints json_front (λ lines texts. (last ≡ first) × HeardAt keeps leaves has_failed start now first.roster first.limits stage lines texts)) (is_over stage) served.end served.lines streams
+    → IsServed (IsHeardWithHints keeps leaves table.roster table.limits start now) served streams
+hinted keeps leaves has_failed start now table first last stage it streams e g x =
+    let over = is_over stage in
+    let Before : Hearing = λ lines texts. (last ≡ first) × HeardAt keeps leaves has_failed start now first.roster first.limits stage lines texts in
+    let Kept : Hearing = IsHeardAndKept keeps leaves first.roster first.limits start now it.receipt over in
+    let h = x.heard in
+    let kept = hints_as json_front Before Kept x.passed.lines x.passed.texts h (kept_at keeps leaves has_failed start now first.roster first.limits stage it.receipt x.passed.lines h.answers g h.heard.1) in
+    let P : Register → Type 0 = λ t. IsServed (IsHeardWithHints keeps leaves t.roster t.limits start now) it streams in
+    subst P e (over, heard_as (WithHints json_front Before) (WithHints json_front Kept) over it.end it.lines streams x kept)
 
 -- nobody was seated, and this is the reply
 pub turned_away : (roster : List (List ℕ)) (limits : Limits) (line : List ℕ) (reply told : Reply) → told ≡ reply → IsHeard roster limits None true (line ∷ []) (reply.bytes ∷ []) → IsHeard roster limits None true (line ∷ []) (told.bytes ∷ [])

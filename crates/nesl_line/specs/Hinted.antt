@@ -3,38 +3,46 @@ use Rattle.std.specs.Prelude.{◌≡◌, ℕ, List, [], ◌∷◌, ◌++◌, fal
 use Rattle.nesl_house.specs.Runs.{Account}
 use Rattle.nesl_line.specs.declared.exchange.End.{End}
 use Rattle.nesl_line.specs.Conversation.{HouseConversation}
-use Rattle.nesl_line.specs.Exchange.{IsExchange, Streams}
+use Rattle.nesl_line.specs.Exchange.{Hearing, IsExchange, Streams}
 use Rattle.nesl_line.specs.Lines.{HasNoFeed}
 
 -- how a byte of a hint is written: a blank in place of a line end, and of each other byte below 32
 abbrev pub shown : ℕ → ℕ
 shown b = if nat_lt b 32 then 32 else b
 
--- one line that begins with `hint: `
-pub record IsHintLine (more : List ℕ) : Type 0 where
-  pub sentence : List ℕ
-  pub one_line : HasNoFeed sentence
-  pub spelled : more ≡ codes "hint: " ++ sentence ++ 10 ∷ []
+-- one line that begins with this
+pub record IsHintLine (front more : List ℕ) : Type 0 where
+  pub rest : List ℕ
+  pub one_line : HasNoFeed rest
+  pub spelled : more ≡ front ++ rest ++ 10 ∷ []
 
 -- below the answer there is nothing, or such a line
-pub data HasHint (answer text : List ℕ) : Type 0 where
-  alone : text ≡ answer → HasHint answer text
-  hinted : (more : List ℕ) → IsHintLine more → text ≡ answer ++ more → HasHint answer text
+pub data HasHint (front answer text : List ℕ) : Type 0 where
+  alone : text ≡ answer → HasHint front answer text
+  hinted : (more : List ℕ) → IsHintLine front more → text ≡ answer ++ more → HasHint front answer text
 
 -- the same for each of the answers
-abbrev pub HaveHints : (answers texts : List (List ℕ)) → Type 0
-HaveHints [] [] = Unit {0}
-HaveHints (answer ∷ answers) (text ∷ texts) = HasHint answer text × HaveHints answers texts
-HaveHints [] (text ∷ texts) = ⊥
-HaveHints (answer ∷ answers) [] = ⊥
+abbrev pub HaveHints : (front : List ℕ) (answers texts : List (List ℕ)) → Type 0
+HaveHints front [] [] = Unit {0}
+HaveHints front (answer ∷ answers) (text ∷ texts) = HasHint front answer text × HaveHints front answers texts
+HaveHints front [] (text ∷ texts) = ⊥
+HaveHints front (answer ∷ answers) [] = ⊥
 
--- The conversation with the house was this one, and the answers have hints below them.
-pub record TalkedWithHints (house : List Account) (lines texts : List (List ℕ)) (house' : List Account) : Type 0 where
+-- what was heard, with hints below the answers
+pub record WithHints (front : List ℕ) (Heard : Hearing) (lines texts : List (List ℕ)) : Type 0 where
   pub answers : List (List ℕ)
-  pub talked : HouseConversation house lines answers house'
-  pub hints : HaveHints answers texts
+  pub heard : Heard lines answers
+  pub hints : HaveHints front answers texts
+
+-- how the hints of a batch begin, and those that are JSON
+abbrev pub plain_front : List ℕ
+plain_front = codes "hint: "
+
+abbrev pub json_front : List ℕ
+json_front = codes "{\"hint\": "
 
 -- A batch as in `IsBatch`, with hints below its answers.
 abbrev pub IsHintedBatch : (house house' : List Account) → End → ℕ → Streams → Type 0
 IsHintedBatch house house' end count streams =
-    IsExchange (λ lines texts. TalkedWithHints house lines texts house') false end count streams
+    IsExchange (WithHints plain_front (λ lines answers. HouseConversation house lines answers house')) false end count
+    streams

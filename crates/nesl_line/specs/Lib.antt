@@ -8,6 +8,7 @@ pub mod Batch
 pub mod Laws
 pub mod Guest
 pub mod Keeping
+pub mod Renewing
 pub mod Serve
 pub mod Visiting
 pub mod Steps

@@ -26,16 +26,12 @@ most_handed = longest + 1
 abbrev pub handed : List ℕ → List ℕ
 handed line = take most_handed (strip_carriage_return line)
 
--- what is handed on of the rest of a text that has ended: it is a line unless it is empty, and a CR stays
-abbrev pub last_line : List ℕ → List (List ℕ)
-last_line rest = if length rest == 0 then [] else take most_handed rest ∷ []
-
--- the lines of a text that was read to its end
+-- the lines of a text that was read to its end: its rest is a line unless it is empty, and a CR stays there
 pub record AllLines (text : List ℕ) (lines : List (List ℕ)) : Type 0 where
   pub whole : List (List ℕ)
   pub rest : List ℕ
   pub splits : Splits text whole rest
-  pub are : lines ≡ map handed whole ++ last_line rest
+  pub are : lines ≡ map handed whole ++ (if length rest == 0 then [] else take most_handed rest ∷ [])
 
 -- the lines of a text after which a read failed: those whose LF came
 pub record WholeLines (text : List ℕ) (lines : List (List ℕ)) : Type 0 where

@@ -14,7 +14,7 @@ use Rattle.nesl_line.specs.Lines.{Splits, handed, most_handed, AllLines, WholeLi
 use Rattle.nesl_line.specs.Conversation.{Turn, HouseConversation}
 use Rattle.nesl_line.specs.Tally.{WriteTally, Rose, risen_by, flushed_by}
 use Rattle.nesl_line.specs.Exchange.{Hearing, text_of, WrittenInPart}
-use Rattle.nesl_line.specs.Hinted.{TalkedWithHints}
+use Rattle.nesl_line.specs.Hinted.{WithHints, plain_front}
 
 -- a prefix of the bytes was written, and all of them if it went well
 pub record Sent (held held' : Option (List ℕ)) (bytes : List ℕ) (well : Bool) : Type 0 where
@@ -75,7 +75,8 @@ TalkedTo house lines texts who house' = (talked : HouseConversation house lines 
 
 -- the same with hints below the answers
 abbrev pub HintedTo : List Account → (lines texts : List (List ℕ)) → Option (List ℕ) → List Account → Type 0
-HintedTo house lines texts who house' = (hinted : TalkedWithHints house lines texts house') × (hinted.talked.who ≡ who)
+HintedTo house lines texts who house' =
+    WithHints plain_front (λ lines answers. TalkedTo house lines answers who house') lines texts
 
 -- one line was heard, and its reply was sent
 pub record Answered

@@ -10,6 +10,7 @@ use nesl_house::lease::{Lease, Receipt};
 use nesl_house::table::{Table, TakeFault};
 use nesl_session::answer::Answer;
 use nesl_session::laws::{goes_on, recorded_lines_grow};
+use nesl_session::session::Session;
 use std::alloc::Global;
 use std::marker::PhantomData;
 use std::mem;
@@ -62,6 +63,14 @@ impl<'t, R: Wait, F, K> Guest<'t, R, F, K> {
             restored: None,
             fault: None,
             keeper: PhantomData,
+        }
+    }
+
+    // The session of the user who is seated.
+    pub fn session(&self) -> Option<&Session> {
+        match &self.stage {
+            Stage::Seated(lease) => Some(lease.session()),
+            Stage::Waiting | Stage::Lost(_) | Stage::Over => None,
         }
     }
 

@@ -1,8 +1,8 @@
-//! A batch with hints below its answers.
-ghost use Rattle.std.specs.Prelude.{◌≡◌, ◌∷◌, ◌++◌, [], IfOk, IfSome, OnOk, false, map};
+//! Hints below answers, and a batch with them.
+ghost use Rattle.std.specs.Prelude.{◌≡◌, ◌∷◌, ◌++◌, [], List, ℕ, IfOk, OnOk, false, map};
 ghost use Rattle.std.specs.Vec.{vec_capacity};
 ghost use Rattle.nesl_line.specs.Exchange.{ReadsTallied, WritesTallied};
-ghost use Rattle.nesl_line.specs.Hinted.{HasHint, IsHintLine, IsHintedBatch, shown};
+ghost use Rattle.nesl_line.specs.Hinted.{HasHint, IsHintLine, IsHintedBatch, plain_front, shown};
 ghost use Rattle.nesl_line.specs.Steps.{HintedTo, NamesFit, chosen};
 ghost use Rattle.nesl_line.specs.Told.{text_told};
 
@@ -17,9 +17,13 @@ use nesl_session::answer::Answer;
 use nesl_session::session::Session;
 use std::alloc::{AllocError, Global};
 
+/// What the lines of hints of a batch begin with.
+const PLAIN_FRONT: &[u8] = b"hint: ";
+
 /// A source of hints.
 pub trait Hinter {
-    /// A hint on a form that this session has just answered with a fault. It is one line without its end, or `None`.
+    /// A hint on a form that this session has just answered with a fault, or `None`. It is what follows the front of a
+    /// line of hints, without the line end.
     fn hint(
         &self,
         alloc: Global,
@@ -50,7 +54,8 @@ impl<M: Manner, H: Hinter> Hearer for Hinting<'_, M, H> {
         let before = pending_copy(alloc, self.chooser.session(world));
         let told = self.chooser.hear(alloc, world, line);
         let session = self.chooser.session(world);
-        with_hint(alloc, self.hinter, session, before, line, told)
+        let hint = hint_on(alloc, self.hinter, session, before, line, &told);
+        with_hint(alloc, PLAIN_FRONT, hint, told)
     }
 
     fn is_over(&self) -> bool {
@@ -59,47 +64,25 @@ impl<M: Manner, H: Hinter> Hearer for Hinting<'_, M, H> {
 }
 
 // A copy of the joined parts of a form that isn't complete yet.
-fn pending_copy(alloc: Global, session: Option<&Session>) -> Result<Vec<u8>, AllocError> {
+pub fn pending_copy(alloc: Global, session: Option<&Session>) -> Result<Vec<u8>, AllocError> {
     match session {
         Some(session) => Vec::from_slice(alloc, session.pending()),
         None => Ok(Vec::new(alloc)),
     }
 }
 
-// The reply to a line, with a hint below it if it is a fault and there is a hint.
-fn with_hint<H: Hinter>(
+// The hint on a line that was answered with a fault. `before` has the parts of its form before it.
+pub fn hint_on<H: Hinter>(
     alloc: Global,
     hinter: &H,
     session: Option<&Session>,
     before: Result<Vec<u8>, AllocError>,
     line: &[u8],
-    told: Told,
-) -> Told
-    ensures { HasHint (text_told line.now told) (text_told line.now result) }
-{
-    match told {
-        Told::By(answer) => match hint_line(alloc, hinter, session, before, line, &answer) {
-            Some(more) => Told::With(answer, more),
-            None => Told::By(answer),
-        },
-        Told::With(answer, more) => Told::With(answer, more),
-        Told::Back => Told::Back,
-        Told::Text(text) => Told::Text(text),
-    }
-}
-
-// The line below an answer that is a fault, or `None` if there is no hint.
-fn hint_line<H: Hinter>(
-    alloc: Global,
-    hinter: &H,
-    session: Option<&Session>,
-    before: Result<Vec<u8>, AllocError>,
-    line: &[u8],
-    answer: &Answer,
-) -> Option<Vec<u8>>
-    ensures { IfSome result (λ more. IsHintLine more.items) }
-{
-    let session = session?;
+    told: &Told,
+) -> Option<Vec<u8>> {
+    let Told::By(answer) = told else {
+        return None;
+    };
     let _ = answer.fault()?;
     let mut form = match before {
         Ok(form) => form,
@@ -108,29 +91,41 @@ fn hint_line<H: Hinter>(
     if form.extend_from_slice(line).is_err() {
         return None;
     }
-    let sentence = hinter.hint(alloc, session, form.as_slice(), answer)?;
-    match line_of(alloc, sentence.as_slice()) {
-        Ok(more) => Some(more),
-        Err(_) => None,
+    hinter.hint(alloc, session?, form.as_slice(), answer)
+}
+
+// The reply to a line, with a hint below it if there is one. Its line begins with `front`.
+pub fn with_hint(alloc: Global, front: &[u8], hint: Option<Vec<u8>>, told: Told) -> Told
+    ensures { (line : List ℕ) → HasHint front.now (text_told line told) (text_told line result) }
+{
+    let Some(hint) = hint else {
+        return told;
+    };
+    match told {
+        Told::By(answer) => match line_of(alloc, front, hint.as_slice()) {
+            Ok(more) => Told::With(answer, more),
+            Err(_) => Told::By(answer),
+        },
+        told => told,
     }
 }
 
-// The line that a sentence is written as.
-fn line_of(alloc: Global, sentence: &[u8]) -> Result<Vec<u8>, AllocError>
-    ensures { IfOk result (λ more. IsHintLine more.items) }
+// The line of a hint.
+fn line_of(alloc: Global, front: &[u8], hint: &[u8]) -> Result<Vec<u8>, AllocError>
+    ensures { IfOk result (λ more. IsHintLine front.now more.items) }
 {
-    let mut more = Vec::from_slice(alloc, b"hint: ")?;
-    match put_line(&mut more, sentence) {
+    let mut more = Vec::from_slice(alloc, front)?;
+    match put_line(&mut more, hint) {
         Ok(()) => Ok(more),
         Err(error) => Err(error),
     }
 }
 
-// Appends a sentence to a text, and ends the line.
-fn put_line(text: &mut Vec<u8>, sentence: &[u8]) -> Result<(), AllocError>
-    ensures { OnOk result (text.new.items ≡ text.old.items ++ map shown sentence.now ++ 10 ∷ []) }
+// Appends a hint to a text, and ends the line.
+fn put_line(text: &mut Vec<u8>, hint: &[u8]) -> Result<(), AllocError>
+    ensures { OnOk result (text.new.items ≡ text.old.items ++ map shown hint.now ++ 10 ∷ []) }
 {
-    put_shown(text, sentence)?;
+    put_shown(text, hint)?;
     text.push(b'\n')?;
     Ok(())
 }

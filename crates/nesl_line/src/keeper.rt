@@ -3,6 +3,7 @@ ghost use Rattle.std.specs.Prelude.{◌≡◌, List, ℕ, IfErr, IfOk, OnErr, On
 ghost use Rattle.nesl_session_meaning.specs.State.{Log, recorded_lines};
 ghost use Rattle.nesl_session_meaning.specs.Response.{Reply};
 ghost use Rattle.nesl_session_meaning.specs.Solo.{Responds};
+ghost use Rattle.nesl_house.specs.Renewal.{renewed};
 ghost use Rattle.nesl_line.specs.Keeping.{IsTakenUp, MarkOf};
 
 use nesl_house::lease::{Lease, Receipt};
@@ -107,6 +108,14 @@ pub trait Keeper {
         ensures left { (old : Log) (reply : Reply) → keeps self.old old → MarkOf was old
             → Responds old line.now reply session.now → leaves self.old self.new old session.now }
         ensures failed { OnErr result (has_failed self.new) };
+
+    /// Keeps the session that began in the place of the one that was kept. If that fails, either may come back.
+    fn renew(&mut self, alloc: Global, session: &Session) -> Result<(), KeepFault>
+        requires { (old : Log) × keeps self.old old × (session.now ≡ renewed old) }
+        ensures kept { OnOk result (keeps self.new session.now) }
+        ensures left { (old : Log) → keeps self.old old → session.now ≡ renewed old
+            → leaves self.old self.new old session.now }
+        ensures failed { OnErr result (has_failed self.new) };
 }
 
 /// Makes a keeper for each connection.
@@ -148,6 +157,10 @@ impl Keeper for () {
         _was: Mark,
         _session: &Session,
     ) -> Result<(), KeepFault> {
+        Ok(())
+    }
+
+    fn renew(&mut self, _alloc: Global, _session: &Session) -> Result<(), KeepFault> {
         Ok(())
     }
 }

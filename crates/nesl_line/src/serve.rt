@@ -1,11 +1,15 @@
 //! The lines of one connection, answered by the session of one user.
-ghost use Rattle.nesl_line.specs.Serve.{IsServed, IsServedAndKept};
+ghost use Rattle.nesl_line.specs.Guest.{IsHeard};
+ghost use Rattle.nesl_line.specs.Keeping.{IsHeardAndKept};
+ghost use Rattle.nesl_line.specs.Serve.{IsHeardWithHints, IsServed};
 ghost use Rattle.nesl_line.specs.Exchange.{ReadsTallied, WritesTallied};
 ghost use Rattle.nesl_line.specs.Visiting.{Attends, SessionAnswersLine};
 
 use crate::device::{Sink, Source};
 use crate::exchange::{End, exchange};
 use crate::guest::{Guest, Left};
+use crate::hinted::Hinter;
+use crate::hinting_guest::HintingGuest;
 use crate::keeper::{Keeper, Unkept};
 use nesl_eval_helpers::{Gate, Helpers, Place};
 use nesl_house::lease::{Lease, Receipt};
@@ -55,7 +59,7 @@ pub fn serve<'t, S: Source, W: Sink, R: Threads + Wait + Sync, H: Helpers + Sync
     helpers: &'t H,
     gate: &'t G,
 ) -> Served
-    ensures served { IsServed table.now.roster table.now.limits result (record {
+    ensures served { IsServed (IsHeard table.now.roster table.now.limits) result (record {
       left = S.left reader.old;
       left_after = S.left reader.new;
       held = W.held writer.old;
@@ -84,8 +88,8 @@ pub fn serve_and_keep<
     H: Helpers + Sync,
     G: Gate + Sync,
 >(rt: &'t R, reader: &mut S, writer: &mut W, keeper: &mut K, room: &Room<'t, H, G>) -> ServedAndKept
-    ensures served { IsServedAndKept K.keeps K.leaves keeper.old keeper.new room.now.table.now.roster
-        room.now.table.now.limits result.served (record {
+    ensures served { IsServed (IsHeardAndKept K.keeps K.leaves room.now.table.now.roster
+        room.now.table.now.limits keeper.old keeper.new) result.served (record {
           left = S.left reader.old;
           left_after = S.left reader.new;
           held = W.held writer.old;
@@ -127,6 +131,64 @@ fn attend<
     { answer_line(rt, alloc, lease, line, helpers, gate) };
     let mut guest = Guest::new(rt, table, speak);
     let ran = exchange(alloc, reader, writer, &mut guest, keeper);
+    let Left {
+        receipt,
+        restored,
+        fault,
+    } = guest.leave();
+    ServedAndKept {
+        served: Served {
+            lines: ran.lines,
+            receipt,
+            end: ran.end,
+        },
+        restored,
+        fault,
+    }
+}
+
+/// Answers the lines of a reader as `serve_and_keep` does, with a hint below each fault that has one. A hint is one
+/// line.
+pub fn serve_with_hints<
+    't,
+    S: Source,
+    W: Sink,
+    K: Keeper,
+    R: Threads + Wait + Sync,
+    H: Helpers + Sync,
+    G: Gate + Sync,
+    N: Hinter,
+>(
+    rt: &'t R,
+    reader: &mut S,
+    writer: &mut W,
+    keeper: &mut K,
+    room: &Room<'t, H, G>,
+    hinter: &'t N,
+) -> ServedAndKept
+    ensures served { IsServed (IsHeardWithHints K.keeps K.leaves room.now.table.now.roster
+        room.now.table.now.limits keeper.old keeper.new) result.served (record {
+          left = S.left reader.old;
+          left_after = S.left reader.new;
+          held = W.held writer.old;
+          held_after = W.held writer.new;
+        }) }
+    ensures reads { ReadsTallied result.served.end (S.tally reader.old) (S.tally reader.new) }
+    ensures writes { WritesTallied result.served.end result.served.lines (W.tally writer.old) (W.tally writer.new) }
+{
+    let Room {
+        alloc,
+        table,
+        helpers,
+        gate,
+    } = *room;
+    let speak = |lease: Lease, line: &[u8]| -> (Lease, Answer)
+        ensures { SessionAnswersLine lease line.now result }
+    { answer_line(rt, alloc, lease, line, helpers, gate) };
+    let guest = Guest::new(rt, table, speak);
+    let mut hinting = HintingGuest { guest, hinter };
+    let ran = exchange(alloc, reader, writer, &mut hinting, keeper);
+    let HintingGuest { guest, hinter: _ } = hinting;
     let Left {
         receipt,
         restored,
