@@ -1,7 +1,6 @@
 //! Hints on names that mean nothing.
 
 mod bound;
-mod elsewhere;
 mod near;
 mod unknowns;
 

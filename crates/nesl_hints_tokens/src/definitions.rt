@@ -3,8 +3,9 @@
 use crate::halt::{Halt, stop, stop_with};
 use crate::line::read_body;
 use crate::machine::{Aim, walk};
+use crate::marks::over;
 use crate::patterns::{check_all_names, pattern_len};
-use crate::problems;
+use crate::problems::Problem;
 use crate::tokens::{is_sign, is_word, name_in};
 use nesl_lex::token::{Kind, Sign, Span, Token, Word};
 use std::alloc::Global;
@@ -33,17 +34,18 @@ fn cut_at(tokens: &[Token], sign: Sign) -> Option<Cut<'_>> {
 fn read_name(token: &Token) -> Result<(), Halt> {
     match &token.kind {
         Kind::Name(_) => Ok(()),
-        Kind::Truth(_) => stop(problems::TRUTH_AS_NAME, token.span),
-        Kind::Reserved(_) => stop(problems::WORD_AS_NAME, token.span),
-        _ => stop(problems::NO_NAME, token.span),
+        Kind::Truth(_) => stop(Problem::TruthAsName, token.span),
+        Kind::Reserved(_) => stop(Problem::WordAsName, token.span),
+        _ => stop(Problem::NoName, token.span),
     }
 }
 
 /// Reads a function's line after its first word.
 pub(crate) fn read_function(alloc: Global, word: Span, rest: &[Token]) -> Result<(), Halt> {
     let [name, behind @ ..] = rest else {
-        return stop(problems::NO_NAME, word);
+        return stop(Problem::NoName, word);
     };
+    check_result(name, behind)?;
     read_name(name)?;
     let len = pattern_len(behind);
     if len > 0 {
@@ -62,11 +64,44 @@ pub(crate) fn read_function(alloc: Global, word: Span, rest: &[Token]) -> Result
     match cut_at(head, Sign::Colon) {
         None => read_parameter(alloc, head, equal)?,
         Some(cut) => {
+            if is_within_parentheses(cut.before) {
+                return stop(Problem::TypedParameter, cut.sign.span);
+            }
             read_parameter(alloc, cut.before, cut.sign)?;
-            read_signature(alloc, cut.behind, equal, problems::BEHIND_TYPE)?;
+            read_signature(alloc, cut.behind, equal, Problem::BehindType)?;
         }
     }
     read_body(alloc, Aim::Expression, body, equal.span)
+}
+
+// Checks that a function's line doesn't begin with the value, as in other languages.
+fn check_result(first: &Token, behind: &[Token]) -> Result<(), Halt> {
+    if is_sign(first, Sign::OpenBracket) {
+        return stop(Problem::SeveralResults, first.span);
+    }
+    match behind {
+        [equal, name, open, ..]
+            if is_sign(equal, Sign::Equal)
+                && name_in(first).is_some()
+                && matches!(&name.kind, Kind::Name(_) | Kind::Truth(_))
+                && is_sign(open, Sign::OpenParenthesis) => {
+            stop(Problem::NamedResult, over(first.span, equal.span))
+        }
+        _ => Ok(()),
+    }
+}
+
+// Whether a `(` is before the end of these tokens, and no `)`.
+fn is_within_parentheses(tokens: &[Token]) -> bool {
+    let mut is_open = false;
+    for token in tokens {
+        match &token.kind {
+            Kind::Symbol(Sign::OpenParenthesis) => is_open = true,
+            Kind::Symbol(Sign::CloseParenthesis) => return false,
+            _ => {}
+        }
+    }
+    is_open
 }
 
 // Whether a function's line may go on with the first of these tokens, after its parameter.
@@ -76,40 +111,40 @@ fn check_behind_parameter(name: Span, behind: &[Token]) -> Result<(), Halt> {
     };
     match &next.kind {
         Kind::Symbol(Sign::Equal | Sign::Colon) => Ok(()),
-        Kind::Symbol(Sign::DoubleEqual) => stop(problems::DOUBLE_EQUAL, next.span),
-        Kind::Symbol(Sign::RightArrow | Sign::DoubleColon) => stop(problems::NO_COLON, next.span),
+        Kind::Symbol(Sign::DoubleEqual) => stop(Problem::DoubleEqual, next.span),
+        Kind::Symbol(Sign::RightArrow | Sign::DoubleColon) => stop(Problem::NoColon, next.span),
         Kind::Name(_) => match behind.iter().find(|token| name_in(*token).is_none()) {
             Some(token) if is_sign(token, Sign::Equal) => {
-                stop_with(problems::SECOND_PARAMETER, next.span, name)
+                stop_with(Problem::SecondParameter, next.span, name)
             }
-            _ => stop(problems::NO_EQUAL, next.span),
+            _ => stop(Problem::NoEqual, next.span),
         },
-        _ => stop(problems::NO_EQUAL, next.span),
+        _ => stop(Problem::NoEqual, next.span),
     }
 }
 
 // Reads a function's line that has no `=`. The first `len` tokens are its parameter.
 fn no_equal(alloc: Global, name: Span, len: usize, behind: &[Token]) -> Result<(), Halt> {
     let Some((last, front)) = behind.split_last() else {
-        return stop(problems::NO_PARAMETER, name);
+        return stop(Problem::NoParameter, name);
     };
     if front.is_empty() && is_sign(last, Sign::Semicolon) {
-        return stop(problems::NO_PARAMETER, last.span);
+        return stop(Problem::NoParameter, last.span);
     }
     if len == 0 {
         read_parameter(alloc, behind, last)?;
     }
     if let Some(signature) = behind.get(len.saturating_add(1)..) {
-        read_signature(alloc, signature, last, problems::NO_EQUAL)?;
+        read_signature(alloc, signature, last, Problem::NoEqual)?;
     }
-    stop(problems::NO_EQUAL, last.span)
+    stop(Problem::NoEqual, last.span)
 }
 
 fn read_parameter(alloc: Global, tokens: &[Token], end: &Token) -> Result<(), Halt> {
     if tokens.is_empty() {
-        return stop(problems::NO_PARAMETER, end.span);
+        return stop(Problem::NoParameter, end.span);
     }
-    check_all_names(tokens, problems::WORD_AS_NAME)?;
+    check_all_names(tokens, Problem::WordAsName)?;
     walk(alloc, Aim::Parameter, tokens, end)
 }
 
@@ -118,11 +153,11 @@ fn read_signature(
     alloc: Global,
     tokens: &[Token],
     end: &Token,
-    behind: &'static str,
+    behind: Problem,
 ) -> Result<(), Halt> {
     let Some(arrow) = cut_at(tokens, Sign::RightArrow) else {
-        walk(alloc, Aim::Type(problems::NO_ARROW), tokens, end)?;
-        return stop(problems::NO_ARROW, end.span);
+        walk(alloc, Aim::Type(Problem::NoArrow), tokens, end)?;
+        return stop(Problem::NoArrow, end.span);
     };
     walk(alloc, Aim::Type(behind), arrow.before, arrow.sign)?;
     match cut_at(arrow.behind, Sign::DoubleColon) {
@@ -135,7 +170,7 @@ fn read_signature(
 }
 
 // Reads the classes of names, in parentheses. `behind` is the problem where more follows them.
-fn read_members(tokens: &[Token], end: &Token, behind: &'static str) -> Result<(), Halt> {
+fn read_members(tokens: &[Token], end: &Token, behind: Problem) -> Result<(), Halt> {
     let mut ended = false;
     for (place, token) in tokens.iter().enumerate() {
         if ended {
@@ -149,29 +184,29 @@ fn read_members(tokens: &[Token], end: &Token, behind: &'static str) -> Result<(
             _ => name_in(token).is_some(),
         };
         if !fits {
-            return stop(problems::NO_MEMBER, token.span);
+            return stop(Problem::NoMember, token.span);
         }
     }
     if ended {
         Ok(())
     } else {
-        stop(problems::NO_MEMBER, end.span)
+        stop(Problem::NoMember, end.span)
     }
 }
 
 /// Reads a datatype's line after its first word.
 pub(crate) fn read_datatype(alloc: Global, word: Span, rest: &[Token]) -> Result<(), Halt> {
     let [name, behind @ ..] = rest else {
-        return stop(problems::NO_NAME, word);
+        return stop(Problem::NoName, word);
     };
     read_name(name)?;
     let Some((last, content)) = behind.split_last() else {
-        return stop(problems::NO_TYPE, name.span);
+        return stop(Problem::NoType, name.span);
     };
-    let aim = Aim::Type(problems::BEHIND_TYPE);
+    let aim = Aim::Type(Problem::BehindType);
     if is_sign(last, Sign::Semicolon) {
         return walk(alloc, aim, content, last);
     }
     walk(alloc, aim, behind, last)?;
-    stop(problems::NO_SEMICOLON, last.span)
+    stop(Problem::NoSemicolon, last.span)
 }

@@ -1,13 +1,13 @@
 //! Why a walk over tokens ends.
 
+use crate::problems::Problem;
 use nesl_lex::token::Span;
 use std::alloc::AllocFailed;
 
 /// What is wrong, where, and what else has to do with it.
 #[derive(Clone, Copy)]
 pub(crate) struct Wrong {
-    /// One of the sentences of `problems`, or what is said of something that another language has.
-    pub(crate) problem: &'static str,
+    pub(crate) problem: Problem,
     pub(crate) place: Span,
     pub(crate) second: Option<Span>,
 }
@@ -26,7 +26,7 @@ impl<T: Drop> From<AllocFailed<T>> for Halt {
 }
 
 /// Ends a walk: this is wrong at this place.
-pub(crate) fn stop<T>(problem: &'static str, place: Span) -> Result<T, Halt> {
+pub(crate) fn stop<T>(problem: Problem, place: Span) -> Result<T, Halt> {
     Err(Halt::Wrong(Wrong {
         problem,
         place,
@@ -35,7 +35,7 @@ pub(crate) fn stop<T>(problem: &'static str, place: Span) -> Result<T, Halt> {
 }
 
 /// Ends a walk: this is wrong at this place, and the second place has to do with it.
-pub(crate) fn stop_with<T>(problem: &'static str, place: Span, second: Span) -> Result<T, Halt> {
+pub(crate) fn stop_with<T>(problem: Problem, place: Span, second: Span) -> Result<T, Halt> {
     Err(Halt::Wrong(Wrong {
         problem,
         place,

@@ -3,7 +3,7 @@
 use nesl_lex::token::Span;
 
 /// What a person reads of a wrong line, beside its reply.
-#[derive(Debug, Drop)]
+#[derive(Drop)]
 pub struct Hint {
     /// Where the line is wrong: bytes of its whole form, the parts before it included.
     pub place: Span,

@@ -4,6 +4,7 @@
 mod bytes;
 mod commands;
 mod definitions;
+mod elsewhere;
 mod foreign;
 mod halt;
 pub mod hint;
@@ -20,6 +21,7 @@ mod tables;
 mod tokens;
 
 pub use bytes::lexical;
+pub use elsewhere::{called_elsewhere, known_elsewhere, type_elsewhere};
 pub use hint::Hint;
 pub use line::syntax;
 pub use sentence::{Filling, Sentence};

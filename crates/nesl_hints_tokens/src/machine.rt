@@ -1,9 +1,9 @@
 //! A walk over the tokens of an expression or a type, up to the first at which no form can go on.
 
 use crate::halt::{Halt, stop, stop_with};
-use crate::marks::{check_pair, over, unclosed};
+use crate::marks::{check_pair, over};
 use crate::openings::{Open, Opening};
-use crate::problems;
+use crate::problems::Problem;
 use crate::tokens::is_sign;
 use nesl_lex::token::{Kind, Sign, Span, Token, Word};
 use std::alloc::Global;
@@ -17,11 +17,11 @@ pub(crate) enum Aim {
     /// A function's parameter.
     Parameter,
     /// A type, and the problem where more follows it.
-    Type(&'static str),
+    Type(Problem),
 }
 
 /// What may come next.
-#[derive(Clone, Copy, PartialEq, Eq)]
+#[derive(Clone, Copy)]
 pub(crate) enum Mode {
     /// An expression.
     Expression,
@@ -64,13 +64,19 @@ pub(crate) fn walk(alloc: Global, aim: Aim, tokens: &[Token], end: &Token) -> Re
         types: Vec::new(alloc),
         empty: Span { start: 0, end: 0 },
     };
-    for (place, token) in tokens.iter().enumerate() {
-        machine.step(place, token)?;
-    }
-    machine.finish(end)
+    machine.run(end)
 }
 
 impl<'a> Machine<'a> {
+    // Walks over all tokens, up to the one after them.
+    fn run(&mut self, end: &Token) -> Result<(), Halt> {
+        let tokens = self.tokens;
+        for (place, token) in tokens.iter().enumerate() {
+            self.step(place, token)?;
+        }
+        self.finish(end)
+    }
+
     fn step(&mut self, place: usize, token: &Token) -> Result<(), Halt> {
         self.check_names(token)?;
         match self.mode {
@@ -117,14 +123,16 @@ impl<'a> Machine<'a> {
                 self.mode = Mode::Type;
                 Ok(())
             }
-            Kind::Reserved(Word::Let | Word::If) if self.mode == Mode::Operand => {
-                stop(problems::IN_OPERAND, at)
+            Kind::Reserved(Word::Let | Word::If) if matches!(self.mode, Mode::Operand) => {
+                stop(Problem::InOperand, at)
             }
             Kind::Reserved(Word::Let) => self.open(Opening::LetPattern, at, place),
             Kind::Reserved(Word::If) => self.open(Opening::Test, at, place),
-            Kind::Reserved(Word::In) if self.mode == Mode::Binding => self.go_on(place, token),
-            Kind::Reserved(Word::Function | Word::Datatype) => stop(problems::FORM_INSIDE, at),
-            Kind::Reserved(Word::Int | Word::Bool | Word::Char) => stop(problems::TYPE_HERE, at),
+            Kind::Reserved(Word::In) if matches!(self.mode, Mode::Binding) => self.go_on(
+                place, token,
+            ),
+            Kind::Reserved(Word::Function | Word::Datatype) => stop(Problem::FormInside, at),
+            Kind::Reserved(Word::Int | Word::Bool | Word::Char) => stop(self.of_type(place), at),
             Kind::Symbol(_) | Kind::Reserved(_) => self.no_expression(place, token),
             _ => {
                 self.mode = Mode::Behind;
@@ -136,8 +144,16 @@ impl<'a> Machine<'a> {
     // Whether the token at a place directly follows the `[` of a sequence.
     fn is_empty_sequence(&self, place: usize) -> bool {
         match self.opens.last() {
-            Some(open) => open.opening == Opening::Square && open.from == place,
+            Some(open) => matches!(open.opening, Opening::Square) && open.from == place,
             None => false,
+        }
+    }
+
+    // The problem of a type where an expression should begin: it is called, or it isn't.
+    fn of_type(&self, place: usize) -> Problem {
+        match self.tokens.get(place.saturating_add(1)) {
+            Some(next) if is_sign(next, Sign::OpenParenthesis) => Problem::Converted,
+            _ => Problem::TypeHere,
         }
     }
 
@@ -147,8 +163,23 @@ impl<'a> Machine<'a> {
             check_pair(before, token)?;
         }
         match self.opens.last() {
-            Some(open) if open.from == place => nothing_inside(*open, token),
-            _ => stop(problems::NO_EXPRESSION, token.span),
+            Some(open) if open.from == place => self.no_content(*open, token),
+            _ => stop(Problem::NoExpression, token.span),
+        }
+    }
+
+    // No expression begins with the first token in something that was opened. With a blank before the `(` of a call, an
+    // operator may be what another language gives a function.
+    fn no_content(&self, open: Open, token: &Token) -> Result<(), Halt> {
+        match (self.before(open.from.saturating_sub(1)), &token.kind) {
+            (_, Kind::Symbol(Sign::CloseParenthesis | Sign::Comma | Sign::Semicolon)) => {
+                nothing_inside(open, token)
+            }
+            (Some(name), _)
+                if matches!(open.opening, Opening::Call) && name.span.end < open.at.start => {
+                stop_with(Problem::OperatorAlone, token.span, name.span)
+            }
+            _ => nothing_inside(open, token),
         }
     }
 
@@ -163,10 +194,10 @@ impl<'a> Machine<'a> {
             Kind::Symbol(Sign::OpenBracket) => Opening::Square,
             Kind::Symbol(Sign::OpenParenthesis) => Opening::Round,
             Kind::Symbol(Sign::Equal) if is_begun => {
-                return stop(problems::DATATYPE_EQUAL, token.span);
+                return stop(Problem::DatatypeEqual, token.span);
             }
-            _ if is_begun => return stop(problems::NO_TYPE, token.span),
-            _ => return stop(problems::NO_ELEMENT_TYPE, self.empty),
+            _ if is_begun => return stop(Problem::NoType, token.span),
+            _ => return stop(Problem::NoElementType, self.empty),
         };
         let from = place.saturating_add(1);
         self.types.push(Open::new(opening, token.span, from))?;
@@ -185,7 +216,7 @@ impl<'a> Machine<'a> {
     // A token that follows a type in brackets.
     fn follow_type(&mut self, token: &Token) -> Result<(), Halt> {
         let Some(open) = self.types.pop() else {
-            return stop(problems::BEHIND_TYPE, token.span);
+            return stop(Problem::BehindType, token.span);
         };
         match (open.opening, &token.kind) {
             (Opening::Round, Kind::Symbol(Sign::Comma)) => {
@@ -197,7 +228,7 @@ impl<'a> Machine<'a> {
                 self.end_type();
                 Ok(())
             }
-            _ => self.not_closed(open, token.span, problems::STILL_OPEN),
+            _ => self.not_closed(open, token.span, Problem::StillOpen),
         }
     }
 
@@ -206,8 +237,8 @@ impl<'a> Machine<'a> {
         let open = match self.mode {
             Mode::Type => {
                 return match self.aim {
-                    Aim::Type(_) => stop(problems::NO_TYPE, end.span),
-                    _ => stop(problems::NO_ELEMENT_TYPE, self.empty),
+                    Aim::Type(_) => stop(Problem::NoType, end.span),
+                    _ => stop(Problem::NoElementType, self.empty),
                 };
             }
             Mode::BehindType => self.types.pop(),
@@ -223,34 +254,29 @@ impl<'a> Machine<'a> {
         match open {
             None => Ok(()),
             Some(open) if open.is_bracket() => {
-                self.not_closed(open, end.span, problems::STILL_OPEN)
+                self.not_closed(open, end.span, Problem::StillOpen)
             }
-            Some(open) => unclosed(open, end.span),
+            Some(open) => self.unclosed(open, end.span),
         }
     }
 
     // An expression is missing before the end.
     fn unfinished(&self, end: &Token) -> Result<(), Halt> {
         if !is_sign(end, Sign::Semicolon) {
-            return stop(problems::GOES_ON, end.span);
+            return stop(Problem::GoesOn, end.span);
         }
         if let Some(last) = self.tokens.last() {
             check_pair(last, end)?;
         }
-        stop(problems::NO_EXPRESSION, end.span)
+        stop(Problem::NoExpression, end.span)
     }
 
     /// A bracket is open where it should have been closed. Where the same bracket follows it, one of the two may be too
     /// much.
-    pub(crate) fn not_closed(
-        &self,
-        open: Open,
-        at: Span,
-        otherwise: &'static str,
-    ) -> Result<(), Halt> {
+    pub(crate) fn not_closed(&self, open: Open, at: Span, otherwise: Problem) -> Result<(), Halt> {
         match (self.before(open.from), self.tokens.get(open.from)) {
             (Some(first), Some(second)) if are_same_signs(first, second) => {
-                stop_with(problems::NOT_CLOSED, open.at, at)
+                stop_with(Problem::NotClosed, open.at, at)
             }
             _ => stop_with(otherwise, at, open.at),
         }
@@ -280,14 +306,14 @@ fn are_same_signs(first: &Token, second: &Token) -> bool {
 fn nothing_inside(open: Open, token: &Token) -> Result<(), Halt> {
     match open.opening {
         Opening::Round | Opening::Call if is_sign(token, Sign::CloseParenthesis) => {
-            stop(problems::NOTHING_INSIDE, token.span)
+            stop(Problem::NothingInside, token.span)
         }
         Opening::Brace if is_sign(token, Sign::CloseBrace) => {
-            stop(problems::NO_SEQUENCE, token.span)
+            stop(Problem::NoSequence, token.span)
         }
         Opening::Index if is_sign(token, Sign::CloseBracket) => {
-            stop(problems::NO_INDEX, over(open.at, token.span))
+            stop(Problem::NoIndex, over(open.at, token.span))
         }
-        _ => stop(problems::NO_EXPRESSION, token.span),
+        _ => stop(Problem::NoExpression, token.span),
     }
 }

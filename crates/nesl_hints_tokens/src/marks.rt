@@ -1,11 +1,11 @@
 //! The tokens that follow an expression.
 
-use crate::foreign::pair_said;
+use crate::foreign::is_foreign_pair;
 use crate::halt::{Halt, stop, stop_with};
 use crate::machine::{Aim, Machine, Mode};
 use crate::openings::{Open, Opening};
-use crate::patterns::check_all_names;
-use crate::problems;
+use crate::patterns::{check_all_names, pattern_len};
+use crate::problems::Problem;
 use crate::tokens::{is_sign, is_word, name_in};
 use nesl_lex::token::{Kind, Sign, Span, Token, Word};
 
@@ -13,10 +13,10 @@ use nesl_lex::token::{Kind, Sign, Span, Token, Word};
 pub(crate) fn check_pair(first: &Token, second: &Token) -> Result<(), Halt> {
     match (&first.kind, &second.kind) {
         (Kind::Symbol(one), Kind::Symbol(other)) if first.span.end == second.span.start => {
-            match pair_said(*one, *other) {
-                Some(said) => stop(said, over(first.span, second.span)),
-                None => Ok(()),
+            if is_foreign_pair(*one, *other) {
+                return stop(Problem::ForeignPair, over(first.span, second.span));
             }
+            Ok(())
         }
         _ => Ok(()),
     }
@@ -36,12 +36,12 @@ impl<'a> Machine<'a> {
             }
             Kind::Symbol(Sign::Comma | Sign::Semicolon | Sign::Colon | Sign::Bar | Sign::Equal)
             | Kind::Reserved(Word::Then | Word::Else | Word::In) => self.go_on(place, token),
-            Kind::Symbol(Sign::DoubleColon) => stop(problems::COLON_HERE, token.span),
+            Kind::Symbol(Sign::DoubleColon) => self.double_colon(place, token),
             Kind::Reserved(Word::Function | Word::Datatype) => {
-                stop(problems::FORM_INSIDE, token.span)
+                stop(Problem::FormInside, token.span)
             }
             Kind::Reserved(Word::Int | Word::Bool | Word::Char) => {
-                stop(problems::TYPE_HERE, token.span)
+                stop(Problem::TypeHere, token.span)
             }
             Kind::Symbol(Sign::OpenBrace | Sign::Hash) | Kind::Reserved(Word::Let | Word::If) => {
                 self.no_operator(place, token)
@@ -54,21 +54,51 @@ impl<'a> Machine<'a> {
         }
     }
 
+    // A `::` after an expression, which may be within a name of another language.
+    fn double_colon(&self, place: usize, token: &Token) -> Result<(), Halt> {
+        match (self.before(place), self.tokens.get(place.saturating_add(1))) {
+            (Some(owner), Some(name))
+                if owner.span.end == token.span.start
+                    && token.span.end == name.span.start
+                    && name_in(owner).is_some()
+                    && name_in(name).is_some() => {
+                stop(Problem::PathHere, over(owner.span, name.span))
+            }
+            _ => stop(Problem::SignatureAlone, token.span),
+        }
+    }
+
     // An expression directly follows another one.
     fn no_operator(&self, place: usize, token: &Token) -> Result<(), Halt> {
         if let Some(open) = self.opens.last() {
             if self.binds_behind(place.saturating_sub(1), *open) {
-                return stop(problems::NO_SEMICOLON_BETWEEN, token.span);
+                return stop(Problem::NoSemicolonBetween, token.span);
+            }
+            if let Some(problem) = self.missing_in(place, *open, token) {
+                return stop_with(problem, token.span, open.at);
             }
         }
         match (self.before(place), self.aim) {
             (Some(before), Aim::Parameter) if name_in(before).is_some() => {
-                stop(problems::NO_PATTERN, token.span)
+                stop(Problem::NoPattern, token.span)
             }
             (Some(before), _) if name_in(before).is_some() => {
-                stop_with(problems::NO_PARENTHESES, token.span, before.span)
+                stop_with(Problem::NoParentheses, token.span, before.span)
             }
-            _ => stop(problems::NO_OPERATOR, token.span),
+            _ => stop(Problem::NoOperator, token.span),
+        }
+    }
+
+    // What is missing in this opening before an expression that follows another one.
+    fn missing_in(&self, place: usize, open: Open, token: &Token) -> Option<Problem> {
+        match open.opening {
+            Opening::Square | Opening::List => Some(Problem::NoComma),
+            Opening::Test if is_sign(token, Sign::OpenBrace) => Some(Problem::NoThen),
+            Opening::Test => match self.before(place) {
+                Some(before) if name_in(before).is_none() => Some(Problem::NoThen),
+                _ => None,
+            },
+            _ => None,
         }
     }
 
@@ -77,10 +107,10 @@ impl<'a> Machine<'a> {
         match self.before(place) {
             Some(before) => match &before.kind {
                 Kind::Name(_) => self.open(Opening::Call, token.span, place),
-                Kind::Truth(_) => stop(problems::TRUTH_CALLED, before.span),
-                _ => stop(problems::NOT_CALLED, token.span),
+                Kind::Truth(_) => stop(Problem::TruthCalled, before.span),
+                _ => stop(Problem::NotCalled, token.span),
             },
-            None => stop(problems::NOT_CALLED, token.span),
+            None => stop(Problem::NotCalled, token.span),
         }
     }
 
@@ -88,17 +118,17 @@ impl<'a> Machine<'a> {
     fn close(&mut self, token: &Token) -> Result<(), Halt> {
         self.settle();
         let Some(open) = self.opens.pop() else {
-            return stop(problems::NOT_OPEN, token.span);
+            return stop(Problem::NotOpen, token.span);
         };
         let Some(closing) = open.closing() else {
-            return unclosed(open, token.span);
+            return self.unclosed(open, token.span);
         };
         match open.opening {
             _ if !is_sign(token, closing) => {
-                self.not_closed(open, token.span, problems::OTHER_BRACKET)
+                self.not_closed(open, token.span, Problem::OtherBracket)
             }
-            Opening::Brace => stop_with(problems::ELEMENTS, token.span, open.at),
-            Opening::EachPattern => stop_with(problems::NO_EACH_IN, token.span, open.at),
+            Opening::Brace => stop_with(Problem::Elements, token.span, open.at),
+            Opening::EachPattern => stop_with(Problem::NoEachIn, token.span, open.at),
             _ => {
                 self.mode = Mode::Behind;
                 Ok(())
@@ -115,9 +145,9 @@ impl<'a> Machine<'a> {
         let Some(next) = open.next(token, place) else {
             return self.not_in(open, place, token);
         };
-        if open.opening == Opening::Brace && next.opening == Opening::EachValue {
+        if matches!(open.opening, Opening::Brace) && matches!(next.opening, Opening::EachValue) {
             let pattern = self.tokens.get(open.from..place).unwrap_or(&[]);
-            check_all_names(pattern, problems::NO_PATTERN)?;
+            check_all_names(pattern, Problem::NoPattern)?;
         }
         self.opens.push(next)?;
         self.mode = match next.opening {
@@ -131,64 +161,95 @@ impl<'a> Machine<'a> {
     fn none_open(&self, place: usize, token: &Token) -> Result<(), Halt> {
         let next = self.tokens.get(place.saturating_add(1));
         let problem = match (&token.kind, self.aim) {
-            (Kind::Symbol(Sign::Semicolon), _) => {
-                return stop(problems::TWO_FORMS, next.unwrap_or(token).span);
-            }
+            (Kind::Symbol(Sign::Semicolon), _) => return behind_form(token, next),
             (Kind::Symbol(Sign::Colon), _) => match next {
-                Some(next) if is_sign(next, Sign::Equal) => problems::BOUND_BY_EQUAL,
-                _ => problems::COLON_HERE,
+                Some(next) if is_sign(next, Sign::Equal) => Problem::BoundByEqual,
+                _ => Problem::ColonHere,
             },
-            (Kind::Symbol(Sign::Bar | Sign::Equal), _) => return self.not_here(place, token),
-            (Kind::Reserved(Word::Then), _) => problems::THEN_ALONE,
-            (Kind::Reserved(Word::Else), _) => problems::ELSE_ALONE,
-            (Kind::Reserved(_), Aim::Value(name)) => {
-                return stop_with(problems::NO_LET, name, token.span);
+            (Kind::Symbol(Sign::Equal), _) if self.binds_before(place) => {
+                if let Some(next) = next {
+                    check_pair(token, next)?;
+                }
+                Problem::BindsOne
             }
-            (Kind::Reserved(_), _) => problems::IN_ALONE,
-            _ => problems::COMMA_HERE,
+            (Kind::Symbol(Sign::Bar), _) => return self.not_here(Problem::BarAlone, place, token),
+            (Kind::Symbol(Sign::Equal), _) => {
+                return self.not_here(Problem::EqualAlone, place, token);
+            }
+            (Kind::Symbol(Sign::Comma), _) if self.binds_after(place) => Problem::BindsOne,
+            (Kind::Reserved(Word::Then), _) => Problem::ThenAlone,
+            (Kind::Reserved(Word::Else), _) => Problem::ElseAlone,
+            (Kind::Reserved(_), Aim::Value(name)) => {
+                return stop_with(Problem::NoLet, name, token.span);
+            }
+            (Kind::Reserved(_), _) => Problem::InAlone,
+            _ => Problem::CommaHere,
         };
         stop(problem, token.span)
     }
 
+    // Whether a name is bound before a place, or names in parentheses that begin the line are.
+    fn binds_before(&self, place: usize) -> bool {
+        match self.aim {
+            Aim::Value(_) => true,
+            _ => place > 0 && pattern_len(self.tokens) == place,
+        }
+    }
+
+    // Whether a `=` comes after a place.
+    fn binds_after(&self, place: usize) -> bool {
+        let behind = self.tokens.get(place..).unwrap_or(&[]);
+        behind.iter().any(|token| is_sign(token, Sign::Equal))
+    }
+
     // A `|` or a `=` that may not be at its place. With the sign after it, it may be one of another language.
-    fn not_here(&self, place: usize, token: &Token) -> Result<(), Halt> {
+    fn not_here(&self, problem: Problem, place: usize, token: &Token) -> Result<(), Halt> {
         if let Some(next) = self.tokens.get(place.saturating_add(1)) {
             check_pair(token, next)?;
         }
-        match &token.kind {
-            Kind::Symbol(Sign::Bar) => stop(problems::BAR_HERE, token.span),
-            _ => stop(problems::EQUAL_FOR_EQUAL, token.span),
-        }
+        stop(problem, token.span)
     }
 
     // A token with which another opening would go on than the newest one, which is `open`.
     fn not_in(&self, open: Open, place: usize, token: &Token) -> Result<(), Halt> {
         let at = token.span;
         match (&token.kind, open.opening) {
-            (Kind::Symbol(Sign::Bar | Sign::Equal), _) => self.not_here(place, token),
+            (Kind::Symbol(Sign::Bar | Sign::Equal), opening) => {
+                self.not_here(misplaced(opening, token), place, token)
+            }
             (Kind::Symbol(Sign::Comma), Opening::Index) => self.comma_in_index(open, at),
             (Kind::Symbol(Sign::Comma), Opening::Brace) => {
-                stop_with(problems::ELEMENTS, at, open.at)
+                stop_with(Problem::Elements, at, open.at)
             }
-            (Kind::Symbol(Sign::Comma), Opening::Test | Opening::Branch) => unclosed(open, at),
+            (Kind::Symbol(Sign::Comma | Sign::Colon), Opening::Test | Opening::Branch) => {
+                self.unclosed(open, at)
+            }
             (Kind::Symbol(Sign::Comma), _) if self.binds_behind(place, open) => {
-                stop(problems::NO_SEMICOLON_BETWEEN, at)
+                stop(Problem::NoSemicolonBetween, at)
             }
-            (Kind::Symbol(Sign::Comma), _) => stop(problems::COMMA_HERE, at),
+            (Kind::Symbol(Sign::Comma), Opening::EachValue) => stop(Problem::BarHere, at),
+            (Kind::Symbol(Sign::Comma), _) => stop(Problem::CommaHere, at),
+            (Kind::Symbol(Sign::Colon), Opening::EachValue) => stop(Problem::BarHere, at),
             (Kind::Symbol(Sign::Colon), opening) => match self.opens.last() {
                 Some(outer) if open.is_bracket() && outer.takes_colon() => {
-                    self.not_closed(open, at, problems::STILL_OPEN)
+                    self.not_closed(open, at, Problem::StillOpen)
                 }
-                _ if opening == Opening::Index => stop_with(problems::COLON_IN_INDEX, at, open.at),
-                _ => stop(problems::COLON_HERE, at),
+                _ if matches!(opening, Opening::Index) => self.colon_in_index(open, place, at),
+                _ => stop(Problem::ColonHere, at),
             },
-            (Kind::Reserved(Word::Else), Opening::Test) => stop_with(
-                problems::NO_THEN,
-                at,
-                open.at,
-            ),
-            _ if open.is_bracket() => self.not_closed(open, at, problems::STILL_OPEN),
-            _ => unclosed(open, at),
+            (Kind::Reserved(Word::Else), Opening::Test) => stop_with(Problem::NoThen, at, open.at),
+            _ if open.is_bracket() => self.not_closed(open, at, Problem::StillOpen),
+            _ => self.unclosed(open, at),
+        }
+    }
+
+    // A `:` in an index, which may have no end after it.
+    fn colon_in_index(&self, open: Open, place: usize, colon: Span) -> Result<(), Halt> {
+        match self.tokens.get(place.saturating_add(1)) {
+            Some(next) if is_sign(next, Sign::CloseBracket) => {
+                stop_with(Problem::OpenRange, colon, open.at)
+            }
+            _ => stop_with(Problem::ColonInIndex, colon, open.at),
         }
     }
 
@@ -196,9 +257,9 @@ impl<'a> Machine<'a> {
     fn comma_in_index(&self, open: Open, comma: Span) -> Result<(), Halt> {
         match self.before(open.from.saturating_sub(1)) {
             Some(before) if name_in(before).is_some() && before.span.end < open.at.start => {
-                stop_with(problems::NO_PARENTHESES, open.at, before.span)
+                stop_with(Problem::NoParentheses, open.at, before.span)
             }
-            _ => stop_with(problems::COMMA_IN_INDEX, open.at, comma),
+            _ => stop_with(Problem::CommaInIndex, open.at, comma),
         }
     }
 
@@ -213,6 +274,40 @@ impl<'a> Machine<'a> {
             None => false,
         }
     }
+
+    /// Something is open that is no bracket, and isn't what the token ends.
+    pub(crate) fn unclosed(&self, open: Open, at: Span) -> Result<(), Halt> {
+        match open.opening {
+            Opening::Test => stop_with(Problem::NoThen, open.at, at),
+            Opening::Branch => stop_with(Problem::NoElse, at, open.at),
+            Opening::LetPattern => stop_with(Problem::NoLetEqual, at, open.at),
+            Opening::LetValue => match self.before(open.from.saturating_sub(1)) {
+                Some(bound) if name_in(bound).is_none() => {
+                    stop_with(Problem::NoInOfParts, at, open.at)
+                }
+                _ => stop_with(Problem::NoIn, at, open.at),
+            },
+            _ => stop_with(Problem::StillOpen, at, open.at),
+        }
+    }
+}
+
+// What follows a form's `;`: another `;`, or what belongs in another line.
+fn behind_form(semicolon: &Token, next: Option<&Token>) -> Result<(), Halt> {
+    match next {
+        Some(next) if !is_sign(next, Sign::Semicolon) => stop(Problem::TwoForms, next.span),
+        _ => stop(Problem::TwoSemicolons, semicolon.span),
+    }
+}
+
+// The problem of a `|` or a `=` with which another opening would go on than this one.
+fn misplaced(opening: Opening, token: &Token) -> Problem {
+    match (&token.kind, opening) {
+        (Kind::Symbol(Sign::Bar), Opening::Round | Opening::Test) => Problem::BarAlone,
+        (Kind::Symbol(Sign::Bar), _) => Problem::BarHere,
+        (_, Opening::Call) => Problem::NamedArgument,
+        _ => Problem::EqualForEqual,
+    }
 }
 
 /// From the first byte of one to the last of the other.
@@ -220,16 +315,5 @@ pub(crate) fn over(from: Span, to: Span) -> Span {
     Span {
         start: from.start,
         end: to.end,
-    }
-}
-
-/// Something is open that is no bracket, and isn't what the token ends.
-pub(crate) fn unclosed(open: Open, at: Span) -> Result<(), Halt> {
-    match open.opening {
-        Opening::Test => stop_with(problems::NO_THEN, open.at, at),
-        Opening::Branch => stop_with(problems::NO_ELSE, at, open.at),
-        Opening::LetPattern => stop_with(problems::NO_LET_EQUAL, at, open.at),
-        Opening::LetValue => stop_with(problems::NO_IN, at, open.at),
-        _ => stop_with(problems::STILL_OPEN, at, open.at),
     }
 }

@@ -3,7 +3,7 @@
 use nesl_lex::token::{Kind, Sign, Span, Token, Word};
 
 /// What is open.
-#[derive(Clone, Copy, PartialEq, Eq)]
+#[derive(Clone, Copy)]
 pub(crate) enum Opening {
     /// `(` of an expression.
     Round,

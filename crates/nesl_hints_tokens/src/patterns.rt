@@ -3,19 +3,26 @@
 use crate::halt::{Halt, stop, stop_with};
 use crate::machine::{Machine, Mode};
 use crate::openings::{Open, Opening};
-use crate::problems;
-use crate::tokens::name_in;
+use crate::problems::Problem;
+use crate::tables::has_word;
+use crate::tokens::{is_parameter, is_sign, name_in};
 use nesl_lex::token::{Kind, Sign, Token, Word};
 
+/// Words that follow a `let` in other languages.
+const LET_WORDS: &str = "mut mutable rec var val const";
+
 /// Checks that the tokens are a pattern's. `of_word` is the problem of a word of the language.
-pub(crate) fn check_all_names(tokens: &[Token], of_word: &'static str) -> Result<(), Halt> {
+pub(crate) fn check_all_names(tokens: &[Token], of_word: Problem) -> Result<(), Halt> {
     for token in tokens {
         match &token.kind {
             Kind::Name(_)
             | Kind::Symbol(Sign::OpenParenthesis | Sign::CloseParenthesis | Sign::Comma) => {}
-            Kind::Truth(_) => return stop(problems::TRUTH_AS_NAME, token.span),
+            Kind::Truth(_) => return stop(Problem::TruthAsName, token.span),
+            Kind::Reserved(Word::Int | Word::Bool | Word::Char) => {
+                return stop(Problem::TypedName, token.span);
+            }
             Kind::Reserved(_) => return stop(of_word, token.span),
-            _ => return stop(problems::NO_PATTERN, token.span),
+            _ => return stop(Problem::NoPattern, token.span),
         }
     }
     Ok(())
@@ -61,15 +68,32 @@ impl<'a> Machine<'a> {
             (Opening::LetPattern, Kind::Symbol(Sign::Equal)) => Ok(()),
             (Opening::EachPattern, Kind::Reserved(Word::In)) => Ok(()),
             (Opening::LetPattern | Opening::EachPattern, Kind::Symbol(Sign::Comma)) => {
-                stop(problems::NO_PATTERN, token.span)
+                stop(Problem::NoPattern, token.span)
             }
-            (Opening::LetPattern, _) => stop_with(problems::NO_LET_EQUAL, token.span, open.at),
-            (Opening::EachPattern, _) => stop_with(problems::NO_EACH_IN, token.span, open.at),
+            (Opening::LetPattern, Kind::Name(_) | Kind::Number(_)) => self.behind_name(open, token),
+            (Opening::LetPattern, _) => stop_with(Problem::NoLetEqual, token.span, open.at),
+            (Opening::EachPattern, _) => stop_with(Problem::NoEachIn, token.span, open.at),
             (_, Kind::Symbol(Sign::Comma | Sign::CloseParenthesis)) => Ok(()),
             (_, Kind::Symbol(Sign::Equal) | Kind::Reserved(Word::In)) => {
-                self.not_closed(open, token.span, problems::STILL_OPEN)
+                self.not_closed(open, token.span, Problem::StillOpen)
             }
-            _ => stop(problems::NO_PATTERN, token.span),
+            _ => stop(Problem::NoPattern, token.span),
+        }
+    }
+
+    // A name or a number that directly follows the pattern of a `let`.
+    fn behind_name(&self, open: Open, token: &Token) -> Result<(), Halt> {
+        let bound = self.tokens.get(open.from..).unwrap_or(&[]);
+        if let Some(first) = bound.first() {
+            if has_word(LET_WORDS, name_in(first).unwrap_or(b"(")) {
+                return stop_with(Problem::LetWord, first.span, open.at);
+            }
+        }
+        match bound.iter().find(|token| !is_parameter(token)) {
+            Some(behind) if is_sign(behind, Sign::Equal) => {
+                stop_with(Problem::LetFunction, token.span, open.at)
+            }
+            _ => stop_with(Problem::NoLetEqual, token.span, open.at),
         }
     }
 }
@@ -78,12 +102,17 @@ impl<'a> Machine<'a> {
 fn begin_pattern(open: Open, token: &Token, mode: Mode) -> Result<(), Halt> {
     match &token.kind {
         Kind::Name(_) | Kind::Symbol(Sign::OpenParenthesis) => Ok(()),
-        Kind::Reserved(Word::In) if mode == Mode::Binding => Ok(()),
-        Kind::Truth(_) => stop(problems::TRUTH_AS_NAME, token.span),
-        Kind::Reserved(word) if *word != Word::In => stop(problems::WORD_AS_NAME, token.span),
-        _ if open.opening == Opening::EachPattern => {
-            stop_with(problems::NO_EACH_IN, token.span, open.at)
+        Kind::Reserved(Word::In) if matches!(mode, Mode::Binding) => Ok(()),
+        Kind::Truth(_) => stop(Problem::TruthAsName, token.span),
+        Kind::Reserved(Word::Int | Word::Bool | Word::Char) => stop(Problem::TypedName, token.span),
+        Kind::Reserved(word) if *word != Word::In => stop(Problem::WordAsName, token.span),
+        Kind::Number(_) | Kind::Text(_) | Kind::Character(_)
+            if matches!(open.opening, Opening::EachPattern) => {
+            stop_with(Problem::NamedPart, token.span, open.at)
         }
-        _ => stop(problems::NO_PATTERN, token.span),
+        _ if matches!(open.opening, Opening::EachPattern) => {
+            stop_with(Problem::NoEachIn, token.span, open.at)
+        }
+        _ => stop(Problem::NoPattern, token.span),
     }
 }

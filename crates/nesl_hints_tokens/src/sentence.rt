@@ -24,6 +24,51 @@ impl Sentence {
         Ok(sentence)
     }
 
+    /// A sentence that says these texts one after the other, in which each `{name}` of a filling is filled.
+    pub fn of_all(
+        alloc: Global,
+        texts: &[&str],
+        fillings: &[Filling<'_>],
+    ) -> Result<Sentence, AllocError> {
+        let mut sentence = Sentence {
+            bytes: Vec::new(alloc),
+        };
+        for text in texts {
+            sentence.add(text, fillings)?;
+        }
+        Ok(sentence)
+    }
+
+    /// A sentence that says this, in which each `#` is the next of these numbers.
+    pub fn with_numbers(
+        alloc: Global,
+        text: &str,
+        numbers: &[u64],
+    ) -> Result<Sentence, AllocError> {
+        let mut sentence = Sentence {
+            bytes: Vec::new(alloc),
+        };
+        sentence.add_numbers(alloc, text, numbers)?;
+        Ok(sentence)
+    }
+
+    // The sentence goes on with this, in which each `#` is the next of these numbers.
+    fn add_numbers(
+        &mut self,
+        alloc: Global,
+        text: &str,
+        numbers: &[u64],
+    ) -> Result<(), AllocError> {
+        for (place, piece) in text.split('#').enumerate() {
+            if place > 0 {
+                let digits = digits_of(alloc, numbers.get(place - 1))?;
+                self.bytes.extend_from_slice(digits.as_bytes())?;
+            }
+            self.bytes.extend_from_slice(piece.as_bytes())?;
+        }
+        Ok(())
+    }
+
     /// The sentence goes on with this, in which each `{name}` of a filling is filled. Other braces are the text's own.
     pub fn add(&mut self, text: &str, fillings: &[Filling<'_>]) -> Result<(), AllocError> {
         let mut pieces = text.split('{');
@@ -52,6 +97,14 @@ impl Sentence {
             second: None,
             sentence: self.bytes,
         }
+    }
+}
+
+// The digits of a number, or none where there is no number.
+fn digits_of(alloc: Global, number: Option<&u64>) -> Result<String, AllocError> {
+    match number {
+        Some(number) => format!(in alloc; "{number}"),
+        None => Ok(String::new(alloc)),
     }
 }
 

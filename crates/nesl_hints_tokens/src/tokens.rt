@@ -18,6 +18,11 @@ pub(crate) fn is_word(token: &Token, word: Word) -> bool {
     }
 }
 
+/// Whether the token may be a parameter of a function in another language, or its name.
+pub(crate) fn is_parameter(token: &Token) -> bool {
+    matches!(&token.kind, Kind::Name(_) | Kind::Number(_) | Kind::Text(_))
+}
+
 /// The name that the token is.
 pub fn name_in(token: &Token) -> Option<&[u8]> {
     match &token.kind {

@@ -27,7 +27,7 @@ impl<'e> Walk<'e> {
         name: &'e [u8],
         argument: &'e Exp,
         given: usize,
-    ) -> Result<usize, Halt<'e>> {
+    ) -> Result<usize, Halt> {
         let ends = self.ends(name)?;
         if self.guesses.join(given, ends.takes)? {
             let ty = ends.gives;
@@ -35,10 +35,11 @@ impl<'e> Walk<'e> {
             return Ok(ty);
         }
         let misfit = self.misfit(argument, given, ends.takes)?;
+        self.blamed = name;
         let role = if misfit.found.ty == given {
-            Role::Argument(name)
+            Role::Argument
         } else {
-            Role::OneArgument(name, misfit.before)
+            Role::OneArgument(misfit.before)
         };
         Err(Halt::Found(Clash {
             role,
@@ -102,7 +103,7 @@ impl<'e> Walk<'e> {
     }
 
     /// The place of the type of an operator before an expression.
-    pub(crate) fn prefix(&mut self, operator: Prefix, found: Typed) -> Result<usize, Halt<'e>> {
+    pub(crate) fn prefix(&mut self, operator: Prefix, found: Typed) -> Result<usize, Halt> {
         let ends = self.guesses.builtin(of_prefix(operator))?;
         self.join(Role::Operand(operator), found, ends.takes)?;
         Ok(ends.gives)
@@ -114,17 +115,17 @@ impl<'e> Walk<'e> {
         operator: Operator,
         left: Typed,
         right: Typed,
-    ) -> Result<usize, Halt<'e>> {
+    ) -> Result<usize, Halt> {
         let ends = self.guesses.builtin(of_infix(operator))?;
         if let Guess::Pair(first, second) = self.guesses.guess(ends.takes) {
-            self.join_beside(Role::Left(operator), left, Some(right.span), first)?;
-            self.join_beside(Role::Right(operator), right, Some(left.span), second)?;
+            self.join_beside(Role::Left(operator), left, Some(right), first)?;
+            self.join_beside(Role::Right(operator), right, Some(left), second)?;
         }
         Ok(ends.gives)
     }
 
     /// The place of the type of an element of a sequence.
-    pub(crate) fn index(&mut self, items: Typed, number: Typed) -> Result<usize, Halt<'e>> {
+    pub(crate) fn index(&mut self, items: Typed, number: Typed) -> Result<usize, Halt> {
         let item = self.guesses.open()?;
         self.expect(Guess::Sequence(item), Role::Indexed, items)?;
         self.expect(Guess::Int, Role::Index, number)?;

@@ -6,17 +6,17 @@ use std::alloc::{AllocError, AllocFailed};
 
 /// What a part of a form is to its whole.
 #[derive(Clone, Copy)]
-pub enum Role<'e> {
+pub enum Role {
     /// The left side of an operator.
     Left(Operator),
     /// The right side of an operator.
     Right(Operator),
     /// What follows a prefix operator.
     Operand(Prefix),
-    /// The argument of the function with this name.
-    Argument(&'e [u8]),
-    /// One of several arguments of the function with this name, and the number of those before it.
-    OneArgument(&'e [u8], u64),
+    /// The argument of the function that the walk blames.
+    Argument,
+    /// One of several arguments of the function that the walk blames, and the number of those before it.
+    OneArgument(u64),
     /// The sequence before an index.
     Indexed,
     /// A number in brackets.
@@ -35,8 +35,8 @@ pub enum Role<'e> {
     Filter,
     /// A pattern that is a pair.
     Pair,
-    /// A pattern that is a record of the datatype with this name.
-    Record(&'e [u8]),
+    /// A pattern that is a record of the datatype that the walk blames.
+    Record,
     /// The parameter of a function, as its signature has it.
     Parameter,
     /// The body of a function, as its signature has it.
@@ -60,12 +60,12 @@ impl Typed {
 
 /// A part of a form that doesn't fit.
 #[derive(Clone, Copy)]
-pub struct Clash<'e> {
+pub struct Clash {
     /// What the part is to its whole.
-    pub role: Role<'e>,
+    pub role: Role,
     pub found: Typed,
     /// What it doesn't fit to.
-    pub second: Option<Span>,
+    pub second: Option<Typed>,
     /// The place of the type that it should have.
     pub wanted: usize,
 }
@@ -81,9 +81,9 @@ pub enum Shortage {
 
 /// Why a walk over a form ends.
 #[derive(Clone, Copy)]
-pub enum Halt<'e> {
+pub enum Halt {
     /// A part doesn't fit.
-    Found(Clash<'e>),
+    Found(Clash),
     /// There isn't enough of something.
     Short(Shortage),
 }
@@ -100,13 +100,13 @@ impl<T: Drop> From<AllocFailed<T>> for Shortage {
     }
 }
 
-impl From<Shortage> for Halt<'_> {
+impl From<Shortage> for Halt {
     fn from(shortage: Shortage) -> Self {
         Halt::Short(shortage)
     }
 }
 
-impl<T: Drop> From<AllocFailed<T>> for Halt<'_> {
+impl<T: Drop> From<AllocFailed<T>> for Halt {
     fn from(_error: AllocFailed<T>) -> Self {
         Halt::Short(Shortage::Memory)
     }

@@ -24,8 +24,18 @@ fn at(places: &[usize], place: usize) -> usize {
 impl Guesses {
     /// A copy of a type, whose variables are the types at these places.
     pub(crate) fn copy(&mut self, part: &Part<'_>, variables: &[usize]) -> Result<usize, Shortage> {
-        let (parts, last) = part.place();
         let mut places = Vec::new(self.alloc);
+        self.copy_parts(part, variables, &mut places)
+    }
+
+    // The same, where the parts that were copied so far are at these places, of which there are none yet.
+    fn copy_parts(
+        &mut self,
+        part: &Part<'_>,
+        variables: &[usize],
+        places: &mut Vec<usize>,
+    ) -> Result<usize, Shortage> {
+        let (parts, last) = part.place();
         for place in 0..parts.len() {
             let made = self.copy_shape(parts.shape(place), places.as_slice(), variables)?;
             places.push(made)?;
@@ -81,16 +91,33 @@ impl Guesses {
         gives: &Part<'_>,
     ) -> Result<Ends, Shortage> {
         let mut variables = Vec::new(self.alloc);
+        self.add_variables(classes, &mut variables)?;
+        self.copy_ends(takes, gives, variables.as_slice())
+    }
+
+    // Adds a type of each class, and notes its place.
+    fn add_variables(
+        &mut self,
+        classes: &[Class],
+        places: &mut Vec<usize>,
+    ) -> Result<(), Shortage> {
         for class in classes {
             let variable = self.add(of_class(*class))?;
-            variables.push(variable)?;
+            places.push(variable)?;
         }
-        let taken = self.copy(takes, variables.as_slice())?;
-        let given = self.copy(gives, variables.as_slice())?;
-        Ok(Ends {
-            takes: taken,
-            gives: given,
-        })
+        Ok(())
+    }
+
+    // Copies of what a function takes and gives, whose variables are the types at these places.
+    fn copy_ends(
+        &mut self,
+        takes: &Part<'_>,
+        gives: &Part<'_>,
+        variables: &[usize],
+    ) -> Result<Ends, Shortage> {
+        let takes = self.copy(takes, variables)?;
+        let gives = self.copy(gives, variables)?;
+        Ok(Ends { takes, gives })
     }
 
     /// What the function takes and gives that makes records of a datatype, which hold this.

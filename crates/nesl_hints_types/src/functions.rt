@@ -20,7 +20,7 @@ fn class_of(class: syntax::Class) -> Class {
 
 impl<'e> Walk<'e> {
     /// Walks over a form, and gives its expression. A definition has no expression of its own.
-    pub fn form(&mut self, form: &'e Form) -> Result<Option<Typed>, Halt<'e>> {
+    pub fn form(&mut self, form: &'e Form) -> Result<Option<Typed>, Halt> {
         match form {
             Form::Eval(exp) | Form::ShowType(exp) | Form::Bind { value: exp, .. } => {
                 Ok(Some(Typed::new(exp.span, self.check(exp)?)))
@@ -44,7 +44,7 @@ impl<'e> Walk<'e> {
         parameter: &'e Pattern,
         signature: &'e Option<Signature>,
         body: &'e Exp,
-    ) -> Result<(), Halt<'e>> {
+    ) -> Result<(), Halt> {
         let ends = self.guesses.unknown()?;
         self.own = Some(Own { name, ends });
         self.bind(parameter, ends.takes)?;
@@ -65,22 +65,26 @@ impl<'e> Walk<'e> {
         parameter: &'e Pattern,
         signature: &'e Signature,
         takes: usize,
-    ) -> Result<Typed, Halt<'e>> {
+    ) -> Result<Typed, Halt> {
         let mut names = Names::new(self.alloc);
-        let from = Typed::new(
-            signature.from.span,
-            self.written(&signature.from, &mut names)?,
-        );
-        let to = Typed::new(signature.to.span, self.written(&signature.to, &mut names)?);
+        let own = Typed::new(parameter.span, takes);
+        self.sign_with(own, signature, &mut names)
+    }
+
+    // The same, where the parameter is known, and the names of types are noted.
+    fn sign_with(
+        &mut self,
+        own: Typed,
+        signature: &'e Signature,
+        names: &mut Names<'e>,
+    ) -> Result<Typed, Halt> {
+        let from = Typed::new(signature.from.span, self.written(&signature.from, names)?);
+        let to = Typed::new(signature.to.span, self.written(&signature.to, names)?);
         for member in &signature.members {
             let wanted = self.add(of_class(class_of(member.class)))?;
-            let found = Typed::new(
-                from.span,
-                self.named_type(member.name.as_slice(), &mut names)?,
-            );
-            self.join(Role::Parameter, found, wanted)?;
+            let place = self.named_type(member.name.as_slice(), names)?;
+            self.join(Role::Parameter, Typed::new(from.span, place), wanted)?;
         }
-        let own = Typed::new(parameter.span, takes);
         self.same(Role::Parameter, from, own)?;
         Ok(to)
     }

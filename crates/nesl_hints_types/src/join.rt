@@ -66,12 +66,22 @@ impl Guesses {
     pub(crate) fn join(&mut self, first: usize, second: usize) -> Result<bool, Shortage> {
         self.before.clear();
         let mut rest = Vec::new(self.alloc);
+        self.join_parts(first, second, &mut rest)
+    }
+
+    // The same, where the pairs of parts that are left over have yet to be made the same.
+    fn join_parts(
+        &mut self,
+        first: usize,
+        second: usize,
+        rest: &mut Vec<(usize, usize)>,
+    ) -> Result<bool, Shortage> {
         let mut next = Some((first, second));
         for _ in 0..self.steps {
             let Some((one, other)) = next else {
                 return Ok(true);
             };
-            if !self.join_one(one, other, &mut rest)? {
+            if !self.join_one(one, other, rest)? {
                 self.take_back();
                 return Ok(false);
             }
@@ -122,6 +132,16 @@ impl Guesses {
     /// Whether a part of the type at a place is sought. A part that the search has come by is not looked at again.
     pub(crate) fn has_part(&mut self, place: usize, sought: Sought) -> Result<bool, Shortage> {
         let mut rest = Vec::new(self.alloc);
+        self.has_part_among(place, sought, &mut rest)
+    }
+
+    // The same, where the parts that are left over have yet to be looked at.
+    fn has_part_among(
+        &mut self,
+        place: usize,
+        sought: Sought,
+        rest: &mut Vec<usize>,
+    ) -> Result<bool, Shortage> {
         let mut next = Some(place);
         for _ in 0..self.steps {
             let Some(here) = next else {
@@ -135,7 +155,7 @@ impl Guesses {
                 _ => {}
             }
             if is_new {
-                leave_parts(guess, &mut rest)?;
+                leave_parts(guess, rest)?;
             }
             next = rest.pop();
         }

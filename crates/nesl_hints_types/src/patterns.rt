@@ -9,7 +9,7 @@ use nesl_syntax_tree::tree::{Pattern, PatternNode, TypeExp, TypeNode};
 
 impl<'e> Walk<'e> {
     /// Binds the names of a pattern, which is of the type at a place.
-    pub(crate) fn bind(&mut self, pattern: &'e Pattern, place: usize) -> Result<(), Halt<'e>> {
+    pub(crate) fn bind(&mut self, pattern: &'e Pattern, place: usize) -> Result<(), Halt> {
         match &pattern.node {
             PatternNode::Name(name) => Ok(self.names.bind(name.as_slice(), place)?),
             PatternNode::Pair { left, right } => {
@@ -25,7 +25,7 @@ impl<'e> Walk<'e> {
     }
 
     // The parts of the type at a place, which has to be a pair.
-    fn parts(&mut self, span: Span, ty: usize) -> Result<(usize, usize), Halt<'e>> {
+    fn parts(&mut self, span: Span, ty: usize) -> Result<(usize, usize), Halt> {
         if let Guess::Pair(first, second) = self.guesses.guess(ty) {
             return Ok((first, second));
         }
@@ -36,11 +36,12 @@ impl<'e> Walk<'e> {
     }
 
     // What a record of the type at a place holds, which has to be the datatype with this name.
-    fn content(&mut self, span: Span, name: &'e [u8], ty: usize) -> Result<usize, Halt<'e>> {
+    fn content(&mut self, span: Span, name: &'e [u8], ty: usize) -> Result<usize, Halt> {
         let Some((tag, content)) = self.datatype(name) else {
             return Ok(self.guesses.open()?);
         };
-        self.expect(Guess::Named(tag), Role::Record(name), Typed::new(span, ty))?;
+        self.blamed = name;
+        self.expect(Guess::Named(tag), Role::Record, Typed::new(span, ty))?;
         Ok(self.guesses.copy(&content.whole(), &[])?)
     }
 

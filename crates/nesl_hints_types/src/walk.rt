@@ -6,8 +6,7 @@ use crate::guesses::{Guess, Guesses};
 use crate::join::Sought;
 use crate::names::Names;
 use nesl_eval_top_level::Payload;
-use nesl_lex::token::Span;
-use nesl_syntax_tree::tree::{Binding, Exp, Node};
+use nesl_syntax_tree::tree::{Binding, Exp, Node, TypeExp};
 use nesl_types::{Context, Top, Ty};
 use std::alloc::Global;
 
@@ -27,6 +26,8 @@ pub struct Walk<'e> {
     pub guesses: Guesses,
     pub(crate) names: Names<'e>,
     pub(crate) own: Option<Own<'e>>,
+    /// The function or the datatype whose name the role of a part that doesn't fit leaves out.
+    pub(crate) blamed: &'e [u8],
     /// The calls so far, and the places of their types.
     pub(crate) calls: Vec<Typed>,
 }
@@ -40,13 +41,14 @@ impl<'e> Walk<'e> {
             guesses: Guesses::new(alloc, bytes),
             names: Names::new(alloc),
             own: None,
+            blamed: b"",
             calls: Vec::new(alloc),
         }
     }
 
     /// The place of the type of an expression.
     #[cycle(walk)]
-    pub(crate) fn check(&mut self, exp: &'e Exp) -> Result<usize, Halt<'e>> {
+    pub(crate) fn check(&mut self, exp: &'e Exp) -> Result<usize, Halt> {
         match &exp.node {
             Node::Call { name, argument } => {
                 let given = self.check(argument)?;
@@ -113,28 +115,28 @@ impl<'e> Walk<'e> {
             }
             Node::Variable(name) => self.variable(name.as_slice()),
             Node::Empty(written) => {
-                let mut names = Names::new(self.alloc);
-                let item = self.written(written, &mut names)?;
+                let item = self.element(written)?;
                 self.guesses.add(Guess::Sequence(item))
             }
             _ => self.guesses.open(),
         }
     }
 
+    // The place of the type that the elements of an empty sequence have.
+    fn element(&mut self, written: &'e TypeExp) -> Result<usize, Shortage> {
+        let mut names = Names::new(self.alloc);
+        self.written(written, &mut names)
+    }
+
     #[cycle(walk)]
-    fn check_two(&mut self, left: &'e Exp, right: &'e Exp) -> Result<(Typed, Typed), Halt<'e>> {
+    fn check_two(&mut self, left: &'e Exp, right: &'e Exp) -> Result<(Typed, Typed), Halt> {
         let first = Typed::new(left.span, self.check(left)?);
         let second = Typed::new(right.span, self.check(right)?);
         Ok((first, second))
     }
 
     #[cycle(walk)]
-    fn check_choice(
-        &mut self,
-        test: &'e Exp,
-        yes: &'e Exp,
-        no: &'e Exp,
-    ) -> Result<usize, Halt<'e>> {
+    fn check_choice(&mut self, test: &'e Exp, yes: &'e Exp, no: &'e Exp) -> Result<usize, Halt> {
         self.check_as(test, Guess::Bool, Role::Test)?;
         let (first, second) = self.check_two(yes, no)?;
         self.same(Role::Otherwise, first, second)
@@ -142,7 +144,7 @@ impl<'e> Walk<'e> {
 
     // The ends of a range, and the place of the type of the last one.
     #[cycle(walk)]
-    fn check_ends(&mut self, from: &'e Exp, to: &'e Exp) -> Result<usize, Halt<'e>> {
+    fn check_ends(&mut self, from: &'e Exp, to: &'e Exp) -> Result<usize, Halt> {
         self.check_as(from, Guess::Int, Role::Bound)?;
         self.check_as(to, Guess::Int, Role::Bound)
     }
@@ -153,14 +155,14 @@ impl<'e> Walk<'e> {
         from: &'e Exp,
         to: &'e Exp,
         stride: &'e Exp,
-    ) -> Result<usize, Halt<'e>> {
+    ) -> Result<usize, Halt> {
         self.check_ends(from, to)?;
         let step = self.check_as(stride, Guess::Int, Role::Bound)?;
         self.add(Guess::Sequence(step))
     }
 
     #[cycle(walk)]
-    fn check_let(&mut self, bindings: &'e [Binding], body: &'e Exp) -> Result<usize, Halt<'e>> {
+    fn check_let(&mut self, bindings: &'e [Binding], body: &'e Exp) -> Result<usize, Halt> {
         let before = self.names.len();
         self.check_bindings(bindings)?;
         let found = self.check(body)?;
@@ -169,11 +171,7 @@ impl<'e> Walk<'e> {
     }
 
     #[cycle(walk)]
-    fn check_unfiltered(
-        &mut self,
-        body: &'e Exp,
-        bindings: &'e [Binding],
-    ) -> Result<usize, Halt<'e>> {
+    fn check_unfiltered(&mut self, body: &'e Exp, bindings: &'e [Binding]) -> Result<usize, Halt> {
         let before = self.names.len();
         let item = self.check_each(body, bindings)?;
         self.names.forget_behind(before)?;
@@ -186,7 +184,7 @@ impl<'e> Walk<'e> {
         body: &'e Exp,
         bindings: &'e [Binding],
         filter: &'e Exp,
-    ) -> Result<usize, Halt<'e>> {
+    ) -> Result<usize, Halt> {
         let before = self.names.len();
         let item = self.check_each(body, bindings)?;
         self.check_as(filter, Guess::Bool, Role::Filter)?;
@@ -196,7 +194,7 @@ impl<'e> Walk<'e> {
 
     // The place of the type of an expression, which has to be this one.
     #[cycle(walk)]
-    fn check_as(&mut self, exp: &'e Exp, guess: Guess, role: Role<'e>) -> Result<usize, Halt<'e>> {
+    fn check_as(&mut self, exp: &'e Exp, guess: Guess, role: Role) -> Result<usize, Halt> {
         let ty = self.check(exp)?;
         self.expect(guess, role, Typed::new(exp.span, ty))?;
         Ok(ty)
@@ -204,7 +202,7 @@ impl<'e> Walk<'e> {
 
     // The place of the type of the body of an apply-to-each.
     #[cycle(walk)]
-    fn check_each(&mut self, body: &'e Exp, bindings: &'e [Binding]) -> Result<usize, Halt<'e>> {
+    fn check_each(&mut self, body: &'e Exp, bindings: &'e [Binding]) -> Result<usize, Halt> {
         let first = self.check_binders(bindings)?;
         match &body.node {
             Node::Element => Ok(first),
@@ -214,7 +212,7 @@ impl<'e> Walk<'e> {
 
     // The elements of a sequence.
     #[cycle(walk)]
-    fn check_items(&mut self, items: &'e [Exp]) -> Result<usize, Halt<'e>> {
+    fn check_items(&mut self, items: &'e [Exp]) -> Result<usize, Halt> {
         let mut first = None;
         for item in items {
             let found = Typed::new(item.span, self.check(item)?);
@@ -234,7 +232,7 @@ impl<'e> Walk<'e> {
 
     // The bindings of a `let`, each of which sees the names before it.
     #[cycle(walk)]
-    fn check_bindings(&mut self, bindings: &'e [Binding]) -> Result<(), Halt<'e>> {
+    fn check_bindings(&mut self, bindings: &'e [Binding]) -> Result<(), Halt> {
         for binding in bindings {
             let value = self.check(&binding.value)?;
             self.bind(&binding.pattern, value)?;
@@ -244,24 +242,24 @@ impl<'e> Walk<'e> {
 
     // The bindings of an apply-to-each, and the place of the type of the first one's elements.
     #[cycle(walk)]
-    fn check_binders(&mut self, bindings: &'e [Binding]) -> Result<usize, Halt<'e>> {
-        let drawn = self.check_drawn(bindings)?;
+    fn check_binders(&mut self, bindings: &'e [Binding]) -> Result<usize, Halt> {
+        let mut drawn = Vec::new(self.alloc);
+        self.check_drawn(bindings, &mut drawn)?;
         self.bind_drawn(bindings, drawn.as_slice())
     }
 
-    // The places of the types of the elements that the bindings of an apply-to-each are of.
+    // Notes the places of the types of the elements that the bindings of an apply-to-each are of.
     #[cycle(walk)]
-    fn check_drawn(&mut self, bindings: &'e [Binding]) -> Result<Vec<usize>, Halt<'e>> {
-        let mut drawn = Vec::new(self.alloc);
+    fn check_drawn(&mut self, bindings: &'e [Binding], drawn: &mut Vec<usize>) -> Result<(), Halt> {
         for binding in bindings {
             let value = Typed::new(binding.value.span, self.check(&binding.value)?);
             drawn.push(self.item_of(value)?)?;
         }
-        Ok(drawn)
+        Ok(())
     }
 
     // Binds the patterns of an apply-to-each to elements of the types at these places; gives the first of these.
-    fn bind_drawn(&mut self, bindings: &'e [Binding], drawn: &[usize]) -> Result<usize, Halt<'e>> {
+    fn bind_drawn(&mut self, bindings: &'e [Binding], drawn: &[usize]) -> Result<usize, Halt> {
         for (binding, item) in bindings.iter().zip(drawn.iter()) {
             self.bind(&binding.pattern, *item)?;
         }
@@ -272,7 +270,7 @@ impl<'e> Walk<'e> {
     }
 
     /// The place of one more type.
-    pub(crate) fn add(&mut self, guess: Guess) -> Result<usize, Halt<'e>> {
+    pub(crate) fn add(&mut self, guess: Guess) -> Result<usize, Halt> {
         Ok(self.guesses.add(guess)?)
     }
 
@@ -298,7 +296,7 @@ impl<'e> Walk<'e> {
     }
 
     // The place of the type of the elements of what a pattern is in.
-    fn item_of(&mut self, value: Typed) -> Result<usize, Halt<'e>> {
+    fn item_of(&mut self, value: Typed) -> Result<usize, Halt> {
         if let Guess::Sequence(item) = self.guesses.guess(value.ty) {
             return Ok(item);
         }
@@ -308,45 +306,30 @@ impl<'e> Walk<'e> {
     }
 
     /// A part has to be of this type.
-    pub(crate) fn expect(
-        &mut self,
-        guess: Guess,
-        role: Role<'e>,
-        found: Typed,
-    ) -> Result<(), Halt<'e>> {
+    pub(crate) fn expect(&mut self, guess: Guess, role: Role, found: Typed) -> Result<(), Halt> {
         let wanted = self.guesses.add(guess)?;
         self.join(role, found, wanted)
     }
 
     /// Two parts have to be of one type, which is given.
-    pub(crate) fn same(
-        &mut self,
-        role: Role<'e>,
-        first: Typed,
-        second: Typed,
-    ) -> Result<usize, Halt<'e>> {
-        self.join_beside(role, second, Some(first.span), first.ty)?;
+    pub(crate) fn same(&mut self, role: Role, first: Typed, second: Typed) -> Result<usize, Halt> {
+        self.join_beside(role, second, Some(first), first.ty)?;
         Ok(first.ty)
     }
 
     /// A part has to be of the type at a place.
-    pub(crate) fn join(
-        &mut self,
-        role: Role<'e>,
-        found: Typed,
-        wanted: usize,
-    ) -> Result<(), Halt<'e>> {
+    pub(crate) fn join(&mut self, role: Role, found: Typed, wanted: usize) -> Result<(), Halt> {
         self.join_beside(role, found, None, wanted)
     }
 
     /// A part has to be of the type at a place, which it has to be because of a second part.
     pub(crate) fn join_beside(
         &mut self,
-        role: Role<'e>,
+        role: Role,
         found: Typed,
-        second: Option<Span>,
+        second: Option<Typed>,
         wanted: usize,
-    ) -> Result<(), Halt<'e>> {
+    ) -> Result<(), Halt> {
         if self.guesses.join(found.ty, wanted)? {
             return Ok(());
         }

@@ -74,25 +74,33 @@ pub(crate) fn retyped(
 ) -> Result<Hint, AllocError> {
     let name = name_of(form);
     let other = referring(asked, name).unwrap_or(b"");
-    let mut sentence = said_of_reference(asked.alloc, other, name)?;
-    if let Some(known) = known_as(asked, name)? {
-        sentence.add(", which is {type}", &[Filling("type", known.as_slice())])?;
-    }
-    sentence.add(": take another name", &[])?;
+    let known = known_as(asked, name)?;
+    let sentence = said_of_reference(asked.alloc, other, name, &known)?;
     Ok(sentence.at(place_of(tokens)))
 }
 
-// A function refers to the name.
-fn said_of_reference<'n>(
+// A function refers to the name, whose type is known in words where it isn't large.
+fn said_of_reference(
     alloc: Global,
-    other: &'n [u8],
-    name: &'n [u8],
+    other: &[u8],
+    name: &[u8],
+    known: &Option<Vec<u8>>,
 ) -> Result<Sentence, AllocError> {
-    Sentence::of(
-        alloc,
-        "`{other}` refers to `{name}`, so this keeps its type",
-        &[Filling("other", other), Filling("name", name)],
-    )
+    let text = match known {
+        Some(_) =>
+            "`{other}` refers to `{name}`, so this keeps its type, which is {type}: take another name",
+        None => "`{other}` refers to `{name}`, so this keeps its type: take another name",
+    };
+    let ty = match known {
+        Some(ty) => ty.as_slice(),
+        None => b"",
+    };
+    let fillings = [
+        Filling("other", other),
+        Filling("name", name),
+        Filling("type", ty),
+    ];
+    Sentence::of(alloc, text, &fillings)
 }
 
 /// The name can't be what the form makes it.

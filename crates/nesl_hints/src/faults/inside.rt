@@ -60,62 +60,79 @@ fn unfold_call(
     place: Span,
     fault: Fault,
 ) -> Result<Option<Unfolded>, AllocError> {
-    let Some((name, argument)) = call_at(form, place) else {
+    let Some(call) = call_at(form, place) else {
         return Ok(None);
     };
-    let Some(source) = source_of(asked, effort, name)? else {
+    let Some(source) = source_of(asked, effort, call.function)? else {
         return Ok(None);
     };
-    if hides(asked.alloc, form, &source)? {
-        return Ok(None);
-    }
-    let text = with_body(asked.alloc, text, place, argument, &source)?;
-    let Some((form, place)) = refused_again(asked, effort, text.as_slice(), fault)? else {
+    let Some(text) = with_body(asked.alloc, text, form, call, &source)? else {
         return Ok(None);
     };
-    Ok(Some(Unfolded {
-        function: Vec::from_slice(asked.alloc, name)?,
-        text,
-        form,
-        place,
-    }))
+    refused_again(asked, effort, text, call.function, fault)
 }
 
-// The name of the function that is called at a place, and where its argument is.
-fn call_at(form: &Form, place: Span) -> Option<(&[u8], Span)> {
+/// A call of a function, by its name.
+#[derive(Clone, Copy)]
+struct Call<'f> {
+    function: &'f [u8],
+    place: Span,
+    argument: Span,
+}
+
+// The call at a place.
+fn call_at(form: &Form, place: Span) -> Option<Call<'_>> {
     let node = node_at(expression_of(form)?, place)?;
     match &node.node {
-        Node::Call { name, argument } => Some((name.as_slice(), argument.span)),
+        Node::Call { name, argument } => Some(Call {
+            function: name.as_slice(),
+            place,
+            argument: argument.span,
+        }),
         _ => None,
     }
 }
 
-// The text with the call at a place replaced by the function's body.
+// The text with a call replaced by the function's body, or `None` where a name would mean something else.
 fn with_body(
     alloc: Global,
     text: &[u8],
-    call: Span,
-    argument: Span,
+    form: &Form,
+    call: Call<'_>,
     source: &Source,
-) -> Result<Vec<u8>, AllocError> {
+) -> Result<Option<Vec<u8>>, AllocError> {
+    if hides(alloc, form, source)? {
+        return Ok(None);
+    }
     let definition = source.text.as_slice();
     let before = Span {
         start: 0,
-        end: call.start,
+        end: call.place.start,
     };
     let behind = Span {
-        start: call.end,
+        start: call.place.end,
         end: text.len(),
     };
-    let mut out = Vec::from_slice(alloc, bytes_of(text, before))?;
-    out.extend_from_slice(b"(let (")?;
-    out.extend_from_slice(bytes_of(definition, source.parameter))?;
-    out.extend_from_slice(b") = (")?;
-    out.extend_from_slice(bytes_of(text, argument))?;
-    out.extend_from_slice(b") in ")?;
-    out.extend_from_slice(bytes_of(definition, source.body))?;
-    out.extend_from_slice(b")")?;
-    out.extend_from_slice(bytes_of(text, behind))?;
+    let pieces = [
+        bytes_of(text, before),
+        b"(let (",
+        bytes_of(definition, source.parameter),
+        b") = (",
+        bytes_of(text, call.argument),
+        b") in ",
+        bytes_of(definition, source.body),
+        b")",
+        bytes_of(text, behind),
+    ];
+    Ok(Some(joined(alloc, &pieces)?))
+}
+
+// The pieces of a text, one after the other.
+fn joined(alloc: Global, pieces: &[&[u8]]) -> Result<Vec<u8>, AllocError> {
+    let mut out = Vec::new(alloc);
+    for piece in pieces {
+        out.extend_from_slice(piece)?;
+    }
     Ok(out)
 }
 
@@ -159,33 +176,61 @@ fn tokens_in(alloc: Global, source: &Source, place: Span) -> Vec<Token> {
     }
 }
 
-// The form that the text is, and where it is refused, if it is for the same reason.
+// The form that the text is, if it is refused for the same reason. A call of the function was replaced in it.
 fn refused_again(
     asked: &Asked<'_>,
     effort: &mut Effort,
-    text: &[u8],
+    text: Vec<u8>,
+    function: &[u8],
     fault: Fault,
-) -> Result<Option<(Form, Span)>, AllocError> {
+) -> Result<Option<Unfolded>, AllocError> {
     if !effort.reaches(text.len()) {
         return Ok(None);
     }
-    let Some(form) = form_of(asked.alloc, text) else {
+    let Some(form) = form_of(asked.alloc, text.as_slice()) else {
         return Ok(None);
     };
-    let evaluated = match expression_of(&form) {
-        Some(exp) => effort.evaluate(asked, exp),
-        None => None,
-    };
-    let Some(evaluated) = evaluated else {
+    let Some(place) = place_again(asked, effort, &form, fault)? else {
         return Ok(None);
     };
-    match evaluated.outcome {
+    Ok(Some(Unfolded {
+        function: Vec::from_slice(asked.alloc, function)?,
+        text,
+        form,
+        place,
+    }))
+}
+
+// Where the evaluation of a form is refused, if it is for the same reason.
+fn place_again(
+    asked: &Asked<'_>,
+    effort: &mut Effort,
+    form: &Form,
+    fault: Fault,
+) -> Result<Option<Span>, AllocError> {
+    let Some(exp) = expression_of(form) else {
+        return Ok(None);
+    };
+    match effort.evaluate(asked, exp) {
+        Some(evaluated) => place_in(&evaluated.outcome, fault),
+        None => Ok(None),
+    }
+}
+
+// Where an evaluation was refused, if it was for the same reason.
+fn place_in(outcome: &Outcome<Global>, fault: Fault) -> Result<Option<Span>, AllocError> {
+    match outcome {
         Outcome::Fault { trap, span, work } => {
-            let found = Fault::of_trap(trap, Stop { span, work });
+            let stop = Stop {
+                span: *span,
+                work: *work,
+            };
+            let found = Fault::of_trap(*trap, stop);
             if found.number() == fault.number() {
-                return Ok(Some((form, span)));
+                Ok(Some(*span))
+            } else {
+                Ok(None)
             }
-            Ok(None)
         }
         Outcome::Memory => Err(AllocError),
         _ => Ok(None),

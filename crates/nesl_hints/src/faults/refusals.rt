@@ -6,7 +6,7 @@ use crate::faults::finding::{expression_of, node_at};
 use crate::faults::inside::{Unfolded, unfold_calls};
 use crate::faults::values::value_of;
 use nesl_builtins::named;
-use nesl_hints_tokens::{Filling, Hint, Sentence, bytes_of, quoted};
+use nesl_hints_tokens::{Filling, Hint, Sentence, bytes_of, quoted, said_of_word};
 use nesl_hints_types::sign_of;
 use nesl_lex::token::Span;
 use nesl_session::{Fault, Stop};
@@ -42,10 +42,10 @@ pub(crate) fn refused(asked: &Asked<'_>, form: &Form, fault: Fault) -> Result<Hi
         _ => unfold_calls(asked, &mut effort, form, stop.span, fault)?,
     };
     let sentence = match inside {
-        Some(inside) => inside_sentence(asked, &inside, fault)?,
-        None => outside_sentence(asked, &mut effort, form, stop.span, fault)?,
+        Some(inside) => inside_sentence(asked, &inside, fault),
+        None => outside_sentence(asked, &mut effort, form, stop.span, fault),
     };
-    Ok(sentence.at(stop.span))
+    Ok(sentence?.at(stop.span))
 }
 
 // The part of a form's expression that has these bytes.
@@ -65,9 +65,20 @@ fn outside_sentence(
         return Sentence::of(asked.alloc, said(fault), &[]);
     };
     let mut sentence = Sentence::of(asked.alloc, "", &[])?;
-    said_of(fault, part).add_to(&mut sentence)?;
-    put_values(asked, effort, &mut sentence, fault, part)?;
+    put_part(asked, effort, &mut sentence, fault, part)?;
     Ok(sentence)
+}
+
+// Adds what is said of a part, and of its values.
+fn put_part(
+    asked: &Asked<'_>,
+    effort: &mut Effort,
+    sentence: &mut Sentence,
+    fault: Fault,
+    part: &Exp,
+) -> Result<(), AllocError> {
+    said_of(fault, part).add_to(sentence)?;
+    put_values(asked, effort, sentence, fault, part)
 }
 
 // What is said of a part of a called function's body.
@@ -83,14 +94,20 @@ fn inside_sentence(
     } else {
         "in `{function}`, at `{part}`: "
     };
-    let function = Filling("function", inside.function.as_slice());
-    let mut sentence = Sentence::of(asked.alloc, front, &[function, Filling("part", part)])?;
-    let said = match part_at(&inside.form, inside.place) {
+    let remark = match part_at(&inside.form, inside.place) {
         Some(found) => said_of(fault, found),
         None => plain(said(fault)),
     };
-    said.add_to(&mut sentence)?;
-    Ok(sentence)
+    let fillings = [
+        Filling("function", inside.function.as_slice()),
+        Filling("part", part),
+        Filling("name", remark.name),
+    ];
+    Sentence::of_all(
+        asked.alloc,
+        &[front, remark.front(), remark.text],
+        &fillings,
+    )
 }
 
 /// What is said of a part, and the name or sign of its function, which is empty where there is none.
@@ -101,10 +118,17 @@ struct Remark<'e> {
 }
 
 impl Remark<'_> {
-    fn add_to(&self, sentence: &mut Sentence) -> Result<(), AllocError> {
-        if !self.name.is_empty() {
-            sentence.add("`{name}`: ", &[Filling("name", self.name)])?;
+    // What stands before the text.
+    fn front(&self) -> &'static str {
+        if self.name.is_empty() {
+            ""
+        } else {
+            "`{name}`: "
         }
+    }
+
+    fn add_to(&self, sentence: &mut Sentence) -> Result<(), AllocError> {
+        sentence.add(self.front(), &[Filling("name", self.name)])?;
         sentence.add(self.text, &[])
     }
 }
@@ -166,18 +190,28 @@ fn said_of_operator(fault: Fault, operator: Operator) -> &'static str {
     }
 }
 
+/// Functions that refuse a number for being outside of what is allowed, and what is said of each.
+const OUTSIDE: &str = "\
+isqrt\ta number below 0 has no root
+lshift rshift\tbits are shifted by 0 to 63 places
+take drop\tthe sequence has fewer elements
+";
+
+/// Functions that refuse lengths, and what is said of each.
+const LENGTHS: &str = "\
+dist index\ta number of elements is 0 or more
+interleave\tthe first sequence has as many elements as the second, or one more
+";
+
 // What is said of the refusal of a function with this name.
 fn said_of_call(fault: Fault, name: &[u8]) -> &'static str {
-    match (fault, name) {
-        (Fault::Range(_), b"isqrt") => "a number below 0 has no root",
-        (Fault::Range(_), b"lshift" | b"rshift") => "bits are shifted by 0 to 63 places",
-        (Fault::Range(_), b"take" | b"drop") => "the sequence has fewer elements",
-        (Fault::Range(_), _) => "a place is none of the sequence, whose places are counted from 0",
-        (Fault::Length(_), b"dist" | b"index") => "a number of elements is 0 or more",
-        (Fault::Length(_), b"interleave") => {
-            "the first sequence has as many elements as the second, or one more"
-        }
-        (Fault::Length(_), _) => "both sequences have to be of the same length",
+    match fault {
+        Fault::Range(_) => said_of_word(OUTSIDE, name).unwrap_or(
+            "a place is none of the sequence, whose places are counted from 0",
+        ),
+        Fault::Length(_) => said_of_word(LENGTHS, name).unwrap_or(
+            "both sequences have to be of the same length",
+        ),
         _ => said(fault),
     }
 }
@@ -199,7 +233,8 @@ fn said(fault: Fault) -> &'static str {
         }
         Fault::Stride(_) => "the step of a range is 1 or more",
         Fault::Deep(_) => {
-            "this goes more than 1,000 levels deep: does a function call itself without an end, or too often?"
+            "this goes more than 1,000 levels deep: a function that calls itself needs an end that it reaches, as in \
+            `if n == 0 then 1 else ..`"
         }
         Fault::Large(_) =>
             "a pair, a sequence or a record here would have more than 1,048,576 nodes",
@@ -220,34 +255,57 @@ fn put_values(
     }
     match &part.node {
         Node::Infix { left, right, .. } => {
-            put_value(asked, effort, sentence, "; the left side is ", left)?;
-            put_value(asked, effort, sentence, "; the right side is ", right)
+            put_value(asked, effort, sentence, "; the left side is {value}", left)?;
+            put_value(
+                asked,
+                effort,
+                sentence,
+                "; the right side is {value}",
+                right,
+            )
         }
         Node::Prefix { operand, .. } => {
-            put_value(asked, effort, sentence, "; it comes before ", operand)
+            put_value(
+                asked,
+                effort,
+                sentence,
+                "; it comes before {value}",
+                operand,
+            )
         }
         Node::Index { sequence, index } => {
-            put_value(asked, effort, sentence, "; the place is ", index)?;
-            put_value(asked, effort, sentence, "; the sequence is ", sequence)
+            put_value(asked, effort, sentence, "; the place is {value}", index)?;
+            put_value(
+                asked,
+                effort,
+                sentence,
+                "; the sequence is {value}",
+                sequence,
+            )
         }
         Node::Call { argument, .. } => {
-            put_value(asked, effort, sentence, "; the argument is ", argument)
+            put_value(
+                asked,
+                effort,
+                sentence,
+                "; the argument is {value}",
+                argument,
+            )
         }
         _ => Ok(()),
     }
 }
 
-// Adds what is said of the value of a part, where it is short.
+// Adds a text about the value of a part, where that is short.
 fn put_value(
     asked: &Asked<'_>,
     effort: &mut Effort,
     sentence: &mut Sentence,
-    front: &str,
+    text: &str,
     part: &Exp,
 ) -> Result<(), AllocError> {
-    if let Some(text) = value_of(asked, effort, part)? {
-        sentence.add(front, &[])?;
-        sentence.add("{value}", &[Filling("value", text.as_slice())])?;
+    match value_of(asked, effort, part)? {
+        Some(value) => sentence.add(text, &[Filling("value", value.as_slice())]),
+        None => Ok(()),
     }
-    Ok(())
 }

@@ -38,51 +38,76 @@ pub(crate) fn source_of(
     if !effort.reaches(text.len()) {
         return Ok(None);
     }
-    let form = form_of(asked.alloc, text.as_slice());
-    match &form {
-        Some(
-            Form::Fun {
-                name: own,
-                parameter: pattern,
-                body: exp,
-                ..
-            },
-        ) if own.as_slice() == name && pattern.span == parameter && exp.span == body => {}
-        _ => return Ok(None),
-    }
-    Ok(Some(Source {
+    let source = Source {
         text,
         parameter,
         body,
-    }))
+    };
+    if source.defines(asked.alloc, name) {
+        Ok(Some(source))
+    } else {
+        Ok(None)
+    }
+}
+
+impl Source {
+    // Whether the text is a definition of the function with this name, whose parts are where they should be.
+    fn defines(&self, alloc: Global, name: &[u8]) -> bool {
+        match form_of(alloc, self.text.as_slice()) {
+            Some(form) => self.is_read_as(&form, name),
+            None => false,
+        }
+    }
+
+    // Whether the form that was read is a definition of the function with this name, as above.
+    fn is_read_as(&self, form: &Form, name: &[u8]) -> bool {
+        match form {
+            Form::Fun {
+                name: own,
+                parameter,
+                body,
+                ..
+            } => {
+                own.as_slice() == name && parameter.span == self.parameter && body.span == self.body
+            }
+            _ => false,
+        }
+    }
 }
 
 // The last form among the lines of the session that begins as a definition of the function does.
 fn last_definition(asked: &Asked<'_>, name: &[u8]) -> Result<Vec<u8>, AllocError> {
     let lines = asked.session.lines();
     let mut form = Vec::new(asked.alloc);
+    if let Some(first) = last_defining(lines, name) {
+        join_lines(lines.get(first..).unwrap_or(&[]), &mut form)?;
+    }
+    Ok(form)
+}
+
+// The number of lines before the last one, among those that are looked at, that begins as a definition of the function.
+fn last_defining(lines: &[Vec<u8>], name: &[u8]) -> Option<usize> {
     let mut found = None;
     for (place, line) in lines.iter().enumerate() {
         if place.saturating_add(MOST_LINES) >= lines.len() && defines(line.as_slice(), name) {
             found = Some(place);
         }
     }
-    let Some(first) = found else {
-        return Ok(form);
-    };
-    for line in lines.iter().skip(first) {
+    found
+}
+
+// Joins the lines of the form that begins with the first one.
+fn join_lines(lines: &[Vec<u8>], form: &mut Vec<u8>) -> Result<(), AllocError> {
+    for line in lines {
         match line.as_slice() {
             [front @ .., b'\\'] => {
                 form.extend_from_slice(front)?;
-                form.extend_from_slice(b" ")?;
+                form.push(b' ')?;
             }
-            whole => {
-                form.extend_from_slice(whole)?;
-                return Ok(form);
-            }
+            whole => return form.extend_from_slice(whole),
         }
     }
-    Ok(form)
+    Ok(())
 }
 
 // Whether a form begins with `function` and the name.

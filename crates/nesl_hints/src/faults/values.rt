@@ -39,7 +39,7 @@ fn in_words(asked: &Asked<'_>, value: &Value, ty: &Ty) -> Result<Option<Vec<u8>>
     match value.sequence_len() {
         Some(len) => {
             let text = format!(in asked.alloc; "a sequence of {len} elements")?;
-            Ok(Some(Vec::from_slice(asked.alloc, text.as_bytes())?))
+            Ok(Some(text.into_bytes()))
         }
         None => Ok(None),
     }

@@ -3,10 +3,11 @@ ghost use Rattle.std.specs.Prelude.{IfOk};
 ghost use Rattle.nesl_hints_tokens.specs.Within.{IsWithin};
 
 use crate::names::bound::{bound_names, is_called, near_binding, near_builtin, near_local};
-use crate::names::elsewhere::{known_elsewhere, type_elsewhere};
 use nesl_builtins::named;
 use nesl_eval_top_level::Payload;
-use nesl_hints_tokens::{Filling, Hint, Sentence, is_sign, name_in};
+use nesl_hints_tokens::{
+    Filling, Hint, Sentence, called_elsewhere, is_sign, known_elsewhere, name_in, type_elsewhere,
+};
 use nesl_lex::token::{Sign, Span, Token};
 use nesl_syntax_tree::tree::Form;
 use nesl_types::Context;
@@ -38,10 +39,10 @@ pub struct Unknown<'a> {
 }
 
 /// A name that means nothing, in a form of `len` bytes, after which places are cut off.
-pub fn unknown_name(
+pub fn unknown_name<'a>(
     alloc: Global,
-    context: &Context<Payload>,
-    form: &Form,
+    context: &'a Context<Payload>,
+    form: &'a Form,
     at: Unknown<'_>,
     len: usize,
 ) -> Result<Hint, AllocError>
@@ -58,14 +59,26 @@ pub fn unknown_name(
             called: false,
         },
     };
-    let sentence = match form {
-        Form::Datatype { name, .. } => said_of_type(alloc, name.as_slice(), sought)?,
-        _ if at.is_value => said_of_value(alloc, context, form, sought)?,
-        _ if sought.called => sought.say(alloc, NO_RECORD)?,
-        _ => said_of_type(alloc, b"", sought)?,
+    let bound = bound_names(alloc, form)?;
+    let remark = match form {
+        Form::Datatype { name, .. } => said_of_type(name.as_slice(), sought),
+        _ if at.is_value => said_of_value(context, form, bound.as_slice(), sought),
+        _ if sought.called => plain(NO_RECORD),
+        _ => said_of_type(b"", sought),
     };
-    let hint = sentence.at(sought.place);
-    Ok(hint.within(len))
+    let sentence = filled(alloc, remark.text, sought.name, remark.known)?;
+    Ok(sentence.at(sought.place).within(len))
+}
+
+// A text with the name and the one near to it.
+fn filled<'a>(
+    alloc: Global,
+    text: &str,
+    name: &'a [u8],
+    known: &'a [u8],
+) -> Result<Sentence, AllocError> {
+    let fillings = [Filling("name", name), Filling("known", known)];
+    Sentence::of(alloc, text, &fillings)
 }
 
 // The first name in the tokens from a place on.
@@ -88,62 +101,57 @@ fn name_from(tokens: &[Token], from: usize) -> Option<Sought<'_>> {
     None
 }
 
-impl<'a> Sought<'a> {
-    // A sentence that names it.
-    fn say(self, alloc: Global, text: &str) -> Result<Sentence, AllocError> {
-        Sentence::of(alloc, text, &[Filling("name", self.name)])
-    }
+/// What is said of a name, and the name that is near to it, which is empty where the text speaks of none.
+#[derive(Clone, Copy)]
+struct Remark<'a> {
+    text: &'static str,
+    known: &'a [u8],
+}
 
-    // A sentence with a name that is near.
-    fn near_to(self, alloc: Global, known: &[u8]) -> Result<Sentence, AllocError> {
-        let mut sentence = self.say(alloc, "nothing is called `{name}`")?;
-        sentence.add("; there is `{known}`", &[Filling("known", known)])?;
-        Ok(sentence)
+// What is said of a name, without another one.
+fn plain(text: &'static str) -> Remark<'static> {
+    Remark { text, known: b"" }
+}
+
+// What is said of a name to which this one is near.
+fn near_to(known: &[u8]) -> Remark<'_> {
+    Remark {
+        text: "nothing is called `{name}`; there is `{known}`",
+        known,
     }
 }
 
 // What is said of a name in what a datatype is to hold.
-fn said_of_type(alloc: Global, own: &[u8], sought: Sought<'_>) -> Result<Sentence, AllocError> {
+fn said_of_type(own: &[u8], sought: Sought<'_>) -> Remark<'static> {
     if sought.name == own {
-        return sought.say(
-            alloc,
-            "a datatype can't hold itself: all types in `{name}` are defined before it",
-        );
+        return plain("a datatype can't hold itself: all types in `{name}` are defined before it");
     }
-    sought.say(
-        alloc,
-        type_elsewhere(sought.name).unwrap_or(
-            "no type is called `{name}`: there are `int`, `bool`, `char`, `[int]`, `(int, int)` and datatypes",
-        ),
-    )
+    plain(type_elsewhere(sought.name).unwrap_or(
+        "no type is called `{name}`: there are `int`, `bool`, `char`, `[int]`, `(int, int)` and datatypes",
+    ))
 }
 
-// What is said of a name in an expression.
-fn said_of_value(
-    alloc: Global,
-    context: &Context<Payload>,
+// What is said of a name in an expression of a form that binds these names.
+fn said_of_value<'a>(
+    context: &'a Context<Payload>,
     form: &Form,
+    bound: &[&'a [u8]],
     sought: Sought<'_>,
-) -> Result<Sentence, AllocError> {
-    let bound = bound_names(alloc, form)?;
+) -> Remark<'a> {
     let is_bound = bound.iter().any(|name| *name == sought.name);
     if sought.called {
-        return said_of_function(alloc, context, is_bound, sought);
+        return said_of_function(context, is_bound, sought.name);
     }
     if is_function(context, form, sought.name) {
-        return sought.say(
-            alloc,
-            "`{name}` is a function: its argument follows it in parentheses",
-        );
+        return plain("`{name}` is a function: its argument follows it in parentheses");
     }
     if is_bound {
-        return sought.say(
-            alloc,
+        return plain(
             "`{name}` is bound, but not known here: a `let` knows it after its binding, and braces in their body and \
             filter",
         );
     }
-    said_of_variable(alloc, context, form, bound.as_slice(), sought)
+    said_of_variable(context, form, bound, sought.name)
 }
 
 // Whether the name is a function's or a datatype's.
@@ -161,66 +169,57 @@ fn is_function(context: &Context<Payload>, form: &Form, name: &[u8]) -> bool {
 }
 
 // What is said of a name before `(`.
-fn said_of_function(
-    alloc: Global,
-    context: &Context<Payload>,
-    is_bound: bool,
-    sought: Sought<'_>,
-) -> Result<Sentence, AllocError> {
-    if is_bound || context.get(sought.name).is_some() {
-        return sought.say(
-            alloc,
-            "`{name}` is a variable and no function: an element is `v[i]`, and a product has its `*`",
+fn said_of_function<'a>(context: &'a Context<Payload>, is_bound: bool, name: &[u8]) -> Remark<'a> {
+    if is_bound || context.get(name).is_some() {
+        return plain(
+            "`{name}` is a variable and no function: an element is `v[i]`, the last one `v[#v - 1]`, and a product has \
+            its `*`",
         );
     }
-    if let Some(said) = known_elsewhere(sought.name) {
-        return sought.say(alloc, said);
+    if let Some(said) = called_elsewhere(name) {
+        return plain(said);
     }
-    if let Some(known) = near_builtin(sought.name) {
-        return sought.near_to(alloc, known);
+    if let Some(known) = near_builtin(name) {
+        return near_to(known);
     }
-    if let Some(known) = near_binding(context, sought.name, true) {
-        return sought.near_to(alloc, known);
+    if let Some(known) = near_binding(context, name, true) {
+        return near_to(known);
     }
-    sought.say(
-        alloc,
-        "no function is called `{name}`: define it first, as in `function g(x) = x + 1;`",
+    plain(
+        "nothing is called `{name}`: a function is defined by `function g(x) = x + 1;`, and an element is `v[i]`",
     )
 }
 
 // What is said of a name that is no function and is bound nowhere.
-fn said_of_variable(
-    alloc: Global,
-    context: &Context<Payload>,
+fn said_of_variable<'a>(
+    context: &'a Context<Payload>,
     form: &Form,
-    bound: &[&[u8]],
-    sought: Sought<'_>,
-) -> Result<Sentence, AllocError> {
+    bound: &[&'a [u8]],
+    name: &[u8],
+) -> Remark<'a> {
     let in_body = matches!(form, Form::Fun { .. });
-    if sought.name == b"it".as_slice() {
-        let said = if in_body {
+    if name == b"it".as_slice() {
+        return plain(if in_body {
             "the body of a function doesn't know `it`: give it as an argument"
         } else {
             "`it` is the value of the last expression, and there was none yet"
-        };
-        return sought.say(alloc, said);
+        });
     }
-    if let Some(known) = near_local(bound, sought.name) {
-        return sought.near_to(alloc, known);
+    if let Some(known) = near_local(bound, name) {
+        return near_to(known);
     }
-    if let Some(known) = near_binding(context, sought.name, false) {
-        return sought.near_to(alloc, known);
+    if let Some(known) = near_binding(context, name, false) {
+        return near_to(known);
     }
-    if let Some(said) = type_elsewhere(sought.name) {
-        return sought.say(alloc, said);
+    if let Some(said) = type_elsewhere(name) {
+        return plain(said);
     }
-    if let Some(said) = known_elsewhere(sought.name) {
-        return sought.say(alloc, said);
+    if let Some(said) = known_elsewhere(name) {
+        return plain(said);
     }
-    let said = if in_body {
+    plain(if in_body {
         "nothing is called `{name}`: a body knows its parameter, and the variables of the session"
     } else {
         "nothing is called `{name}`: bind it first, as in `x = 3;`"
-    };
-    sought.say(alloc, said)
+    })
 }

@@ -3,12 +3,10 @@ ghost use Rattle.std.specs.Prelude.{IfOk, IfSome};
 ghost use Rattle.nesl_hints_tokens.specs.Within.{IsWithin};
 
 use crate::clash::{Halt, Shortage, Typed};
-use crate::guesses::Guesses;
 use crate::typing::sentences::hint_of;
-use crate::typing::words::Words;
 use crate::walk::Walk;
 use nesl_eval_top_level::Payload;
-use nesl_hints_tokens::{Filling, Hint, Sentence};
+use nesl_hints_tokens::{Hint, Sentence};
 use nesl_lex::token::Span;
 use nesl_syntax_tree::tree::Form;
 use nesl_types::Context;
@@ -20,8 +18,8 @@ const TOO_LARGE: &str =
 
 /// What is said of a part whose type is open.
 const NOTHING_DECIDES: &str =
-    "nothing decides the type of this, which is `{type}`: use it beside something whose type is known, as in \
-    `[] int ++ ..`";
+    "nothing decides the type of this: a function that always calls itself needs an end, as in \
+    `if n == 0 then 1 else ..`, and `[] int ++ ..` decides the type of a sequence";
 
 /// The first part of a form, by parts, whose type is not what the rest of the form wants, or the whole form where it
 /// takes too many steps to find one. It is `None` where there is none. The form has `len` bytes, after which places are
@@ -35,18 +33,26 @@ pub fn ill_typed(
     ensures { IfOk result (λ hint. IfSome hint (IsWithin len)) }
 {
     let mut walk = Walk::new(alloc, context, len);
-    match walk.form(form) {
-        Err(Halt::Found(clash)) => {
-            let hint = hint_of(alloc, &walk.guesses, context, clash)?;
-            Ok(Some(hint.within(len)))
-        }
-        Err(Halt::Short(Shortage::Memory)) => Err(AllocError),
+    misfit_in(&mut walk, form, len)
+}
+
+// The first part of a form that doesn't fit, by a walk that has yet to begin.
+fn misfit_in<'e>(
+    walk: &mut Walk<'e>,
+    form: &'e Form,
+    len: usize,
+) -> Result<Option<Hint>, AllocError>
+    ensures { IfOk result (λ hint. IfSome hint (IsWithin len)) }
+{
+    let hint = match walk.form(form) {
+        Err(Halt::Found(clash)) => hint_of(walk, clash)?,
         Err(Halt::Short(Shortage::Steps)) => {
-            let hint = Sentence::of(alloc, TOO_LARGE, &[])?.at(Span { start: 0, end: len });
-            Ok(Some(hint.within(len)))
+            Sentence::of(walk.alloc, TOO_LARGE, &[])?.at(Span { start: 0, end: len })
         }
-        Ok(_) => Ok(None),
-    }
+        Err(Halt::Short(Shortage::Memory)) => return Err(AllocError),
+        Ok(_) => return Ok(None),
+    };
+    Ok(Some(hint.within(len)))
 }
 
 /// The first call in a form whose type nothing decides, or `None` where none was found. The form has `len` bytes, after
@@ -60,13 +66,20 @@ pub fn ambiguous(
     ensures { IfOk result (λ hint. IfSome hint (IsWithin len)) }
 {
     let mut walk = Walk::new(alloc, context, len);
+    open_in(&mut walk, form, len)
+}
+
+// The first call in a form whose type nothing decides, by a walk that has yet to begin.
+fn open_in<'e>(walk: &mut Walk<'e>, form: &'e Form, len: usize) -> Result<Option<Hint>, AllocError>
+    ensures { IfOk result (λ hint. IfSome hint (IsWithin len)) }
+{
     match walk.form(form) {
-        Err(Halt::Short(Shortage::Memory)) => Err(AllocError),
         Ok(Some(whole)) => {
-            let open = first_open(&mut walk, whole)?;
-            let hint = undecided(alloc, &walk.guesses, context, open)?;
+            let open = first_open(walk, whole)?;
+            let hint = Sentence::of(walk.alloc, NOTHING_DECIDES, &[])?.at(open.span);
             Ok(Some(hint.within(len)))
         }
+        Err(Halt::Short(Shortage::Memory)) => Err(AllocError),
         _ => Ok(None),
     }
 }
@@ -78,17 +91,4 @@ fn first_open(walk: &mut Walk<'_>, whole: Typed) -> Result<Typed, AllocError> {
         Ok(None) | Err(Shortage::Steps) => Ok(whole),
         Err(Shortage::Memory) => Err(AllocError),
     }
-}
-
-// What is said of a part whose type is open.
-fn undecided<'e>(
-    alloc: Global,
-    guesses: &'e Guesses,
-    context: &'e Context<Payload>,
-    open: Typed,
-) -> Result<Hint, AllocError> {
-    let mut words = Words::new(alloc, guesses, context);
-    let ty = words.of(alloc, open.ty)?;
-    let sentence = Sentence::of(alloc, NOTHING_DECIDES, &[Filling("type", ty.as_slice())])?;
-    Ok(sentence.at(open.span))
 }

@@ -1,6 +1,7 @@
 //! Types in the language's words.
 
 use crate::guesses::{Guess, Guesses};
+use crate::walk::Walk;
 use nesl_eval_top_level::Payload;
 use nesl_types::{Class, Context};
 use std::alloc::{AllocError, Global};
@@ -23,51 +24,57 @@ enum Piece {
 
 /// Types in words, with one letter for each that is open.
 #[derive(Drop)]
-pub(crate) struct Words<'a> {
+struct Words<'a> {
     guesses: &'a Guesses,
     context: &'a Context<Payload>,
     letters: Vec<usize>,
 }
 
 impl<'a> Words<'a> {
-    pub(crate) fn new(
-        alloc: Global,
-        guesses: &'a Guesses,
-        context: &'a Context<Payload>,
-    ) -> Words<'a> {
+    // No letters yet.
+    fn new(walk: &'a Walk<'_>) -> Words<'a> {
         Words {
-            guesses,
-            context,
-            letters: Vec::new(alloc),
+            guesses: &walk.guesses,
+            context: walk.context,
+            letters: Vec::new(walk.alloc),
         }
     }
 
-    /// The type at a place.
-    pub(crate) fn of(&mut self, alloc: Global, place: usize) -> Result<Vec<u8>, AllocError> {
+    // Writes the type at a place.
+    fn write(&mut self, alloc: Global, place: usize, out: &mut Vec<u8>) -> Result<(), AllocError> {
         match self.guesses.guess(place) {
-            Guess::Open(Class::Ordinal) => return Vec::from_slice(alloc, b"int or char"),
-            Guess::Open(Class::Logical) => return Vec::from_slice(alloc, b"int or bool"),
-            _ => {}
+            Guess::Open(Class::Ordinal) => out.extend_from_slice(b"int or char"),
+            Guess::Open(Class::Logical) => out.extend_from_slice(b"int or bool"),
+            _ => {
+                let mut pieces = Vec::new(alloc);
+                self.write_pieces(place, out, &mut pieces)
+            }
         }
-        let mut out = Vec::new(alloc);
-        let mut pieces = Vec::new(alloc);
+    }
+
+    // Writes the pieces of the type at a place, of which none is left over yet.
+    fn write_pieces(
+        &mut self,
+        place: usize,
+        out: &mut Vec<u8>,
+        pieces: &mut Vec<Piece>,
+    ) -> Result<(), AllocError> {
         let mut next = Some(Piece::Whole(place));
         for _ in 0..MOST_PIECES {
             let Some(piece) = next else {
-                return Ok(out);
+                return Ok(());
             };
             if out.len() > MOST_BYTES {
                 break;
             }
-            self.write(piece, &mut out, &mut pieces)?;
+            self.write_piece(piece, out, pieces)?;
             next = pieces.pop();
         }
-        out.extend_from_slice(b" ..")?;
-        Ok(out)
+        out.extend_from_slice(b" ..")
     }
 
     // Writes a piece, but for its parts, which are left over.
-    fn write(
+    fn write_piece(
         &mut self,
         piece: Piece,
         out: &mut Vec<u8>,
@@ -120,4 +127,27 @@ impl<'a> Words<'a> {
         out.push(b'a' + (number % 26) as u8)?;
         Ok(())
     }
+}
+
+/// Two types in words, which share their letters.
+#[derive(Drop)]
+pub(crate) struct Types {
+    pub(crate) found: Vec<u8>,
+    pub(crate) wanted: Vec<u8>,
+}
+
+/// The types at two places.
+pub(crate) fn types_in_words(
+    walk: &Walk<'_>,
+    found: usize,
+    wanted: usize,
+) -> Result<Types, AllocError> {
+    let mut words = Words::new(walk);
+    let mut types = Types {
+        found: Vec::new(walk.alloc),
+        wanted: Vec::new(walk.alloc),
+    };
+    words.write(walk.alloc, found, &mut types.found)?;
+    words.write(walk.alloc, wanted, &mut types.wanted)?;
+    Ok(types)
 }
