@@ -1,6 +1,6 @@
 -- What an expression evaluates to, with an account of what it cost. It is the meaning of expressions once more, where
 -- costs are kept in place of their sums.
-use Rattle.std.specs.Prelude.{ℕ, zero, suc, pos, min, length, List, [], ◌∷◌, ◌++◌, map, Bool, true, false, Option}
+use Rattle.std.specs.Prelude.{ℕ, zero, suc, length, List, [], ◌∷◌, ◌++◌, map, Bool, true, false, Option}
 use Rattle.std.specs.Prelude.{Some, None, unwrap_or}
 use Rattle.nesl_lex.specs.declared.token.Span.{Span}
 use Rattle.nesl_values.specs.Tree as values
@@ -10,16 +10,16 @@ use Rattle.nesl_scalars.specs.declared.trap.Trap.TheVariants.{Deep}
 use Rattle.nesl_seqs_base.specs.declared.seq_fn.SeqFn.TheVariants as seq
 use Rattle.nesl_builtins.specs.declared.builtin.Builtin.{Builtin}
 use Rattle.nesl_builtins.specs.declared.builtin.Builtin.TheVariants.{OfSequences}
-use Rattle.nesl_builtins.specs.Named.{builtin_named, infix_builtin, prefix_builtin}
+use Rattle.nesl_builtins.specs.Named.{builtin_named, infix_builtin, prefix_builtin, look_up}
 use Rattle.nesl_syntax_tree.specs.Trees.{PatternTree, Tree, Trees, Binders, node, none, more, no_binders, binder}
 use Rattle.nesl_syntax_tree.specs.Trees.{span_of}
 use Rattle.nesl_syntax_tree.specs.Trees as trees
 use Rattle.nesl_eval_meaning.specs.Names.{Name, Value, Scope, outside, with_names, Top, function_of}
-use Rattle.nesl_eval_meaning.specs.Names.{datatype_of, Environment, look_up, bound}
+use Rattle.nesl_eval_meaning.specs.Names.{datatype_of, Environment, bound}
 use Rattle.nesl_eval_meaning.specs.Out as out
 use Rattle.nesl_eval_meaning.specs.Out.{Out}
 use Rattle.nesl_eval_meaning.specs.Outcome.{small_enough, apply_builtin, variable_in, common_places, lengths, sources}
-use Rattle.nesl_eval_meaning.specs.Outcome.{scope_at, place_if_true, body_value, greatest_number}
+use Rattle.nesl_eval_meaning.specs.Outcome.{scope_at, place_if_true, body_value, denoted}
 use Rattle.nesl_cost_meaning.specs.Cost.{Cost, free, entered, spent, after, turn, called, work_in, depth_in, Place}
 
 -- a value, or a fault, each with its cost; or neither. A fault has the span that is reported, in the line, and its
@@ -132,7 +132,7 @@ over_places f s bs sc k =
 
 -- a node besides its own 1
 abbrev pub node_of : Parts → Environment → Scope → Tree → Traced Value
-node_of f env sc (node s (trees.number n)) = value (values.int (pos (min n greatest_number))) free
+node_of f env sc (node s (trees.number n)) = value (values.int (denoted n)) free
 node_of f env sc (node s (trees.truth b)) = value (values.boolean b) free
 node_of f env sc (node s (trees.character c)) = value (values.character c) free
 node_of f env sc (node s (trees.text cs)) =
