@@ -9,7 +9,7 @@ use Rattle.nesl_line.specs.declared.exchange.End.{End}
 use Rattle.nesl_prompt.specs.declared.style.Style.{Style}
 use Rattle.nesl_prompt.specs.Points.{Point, LineAndReply, Replied, WasGiven, Obeyed, joined, is_plain}
 use Rattle.nesl_reply.specs.declared.fault.Fault.{Fault}
-use Rattle.nesl_prompt.specs.Conversation.{IsSign, missing, begins, goes_on, IsBelow, IsReplyText, TakesLine, gathers, answers, runs_out, Turn, own, waits, takes, Conversed, Rests}
+use Rattle.nesl_prompt.specs.Conversation.{IsSign, missing, begins, goes_on, IsBelow, IsWritten, whole, cut, IsReplyText, TakesLine, gathers, answers, runs_out, Turn, Conversed, Rests}
 
 pub replied_then : (a b c : Log) (xs ys : List LineAndReply) → Replied a xs b → Replied b ys c → Replied a (xs ++ ys) c
 replied_then a b c [] ys p q = let P : Log → Type 0 = λ x. Replied x ys c in subst P p q
@@ -30,7 +30,7 @@ given_one a b line reply r = record { lines = record { line = line; reply = repl
 -- a line of a form was taken
 pub takes_given : (plain : Bool) (point point' : Point) (line text : List ℕ) → TakesLine plain point line text point' → WasGiven point.log point'.log
 takes_given plain point point' line text (gathers g f l p) = given_none point.log point'.log l
-takes_given plain point point' line text (answers reply r f t) = given_one point.log point'.log (joined point.form line) reply r
+takes_given plain point point' line text (answers reply ends r f t) = given_one point.log point'.log (joined point.form line) reply r
 takes_given plain point point' line text (runs_out f l t) = given_none point.log point'.log l
 
 pub obeyed_none : (any : Bool) (a b : Log) → b ≡ a → Obeyed any a b
@@ -48,11 +48,26 @@ conversed_more plain point mid last [] (s ∷ ss) line text c t = absurd c
 conversed_more plain point mid last (l ∷ ls) [] line text c t = absurd c
 conversed_more plain point mid last (l ∷ ls) (s ∷ ss) line text c t = (c.0, c.1, conversed_more plain c.0 mid last ls ss line text c.2 t)
 
+-- the same of a reply
+written_plainly : (a b : Bool) (reply more text : List ℕ) → (a ≡ true → b ≡ true) → IsWritten b reply more text → IsWritten a reply more text
+written_plainly a b reply more text h (whole e) = whole e
+written_plainly true b reply more text h (cut front left_out rest note p r e) = let no' : true ≡ false = sym (h refl) ∙ p in absurd (cc)
+written_plainly false b reply more text h (cut front left_out rest note p r e) = cut front left_out rest note refl r e
+
+-- where only replies are written, a reply is whole
+pub written_whole : (reply more text : List ℕ) → IsWritten true reply more text → text ≡ reply ++ more
+written_whole reply more text (whole e) = e
+written_whole reply more text (cut front left_out rest note p r e) = absurd (cc)
+
+-- where there are prompts, the style isn't plain
+pub not_plain : (style : Style) → style.prompts ≡ true → is_plain style ≡ false
+not_plain style p = ap (λ x. not x && not style.hints) p
+
 -- a text for a plain style is also one for any other
 pub told_plainly : (a b : Bool) (reply : Reply) (text : List ℕ) → (a ≡ true → b ≡ true) → IsReplyText b reply text → IsReplyText a reply text
 told_plainly a b reply text h t = record {
   more = t.more;
-  spelled = t.spelled;
+  written = written_plainly a b reply.bytes t.more text h t.written;
   below = record {
     hint = t.below.hint;
     sign = t.below.sign;
@@ -133,6 +148,10 @@ emptied (x ∷ xs) n b l e t = let z : n ≡ 0 = eqb-true n 0 (sym e ∙ t) in a
 pub filled : (items : List ℕ) (n : ℕ) (b : Bool) → n ≡ length items → b ≡ (n == 0) → b ≡ false → items ≢ []
 filled [] n b l e t = let z : (n == 0) ≡ true = ap (λ k. k == 0) l in let no' : true ≡ false = sym z ∙ sym e ∙ t in absurd (cc)
 filled (x ∷ xs) n b l e t = λ e'. absurd (cc)
+
+pub not_not : (b : Bool) → not b ≡ true → b ≡ false
+not_not true e = absurd (cc)
+not_not false e = refl
 
 -- a conversation from its beginning, in a style
 pub conversed_from : (a b : Style) (form : List ℕ) (log : Log) (point : Point) (lines texts : List (List ℕ)) → a ≡ b → form ≡ [] → Conversed (is_plain a) (record { form = form; log = log }) lines texts point → Conversed (is_plain b) (record { form = []; log = log }) lines texts point

@@ -1,15 +1,14 @@
 -- A prompt without own words is its session.
-use Rattle.std.proofs.Common.{◌≡◌, ℕ, List, [], ◌∷◌, ◌++◌, Bool, true, false, refl, sym, ap, ◌∙◌, subst, append_assoc}
-use Rattle.std.specs.Prelude.{flat_map}
+use Rattle.std.proofs.Common.{◌≡◌, ℕ, List, [], ◌∷◌, ◌++◌, true, false, refl, sym, ap, ◌∙◌, append_assoc}
 use Rattle.nesl_session_meaning.specs.State.{Log}
 use Rattle.nesl_session_meaning.specs.Response.{Reply, no_memory}
 use Rattle.nesl_session_meaning.specs.Solo.{Responds}
 use Rattle.nesl_line.specs.Exchange.{text_of}
-use Rattle.nesl_prompt.specs.Points.{Point, LineAndReply, Replied, joined}
+use Rattle.nesl_prompt.specs.Points.{Point, LineAndReply, joined}
 use Rattle.nesl_prompt.specs.Words.{is_own}
-use Rattle.nesl_prompt.specs.Conversation.{IsReplyText, TakesLine, gathers, answers, runs_out, Turn, own, waits, takes, Conversed}
-use Rattle.nesl_prompt.specs.Laws.{IsTheSessions, HasNoOwn, PromptsAreSessions, replies_of}
-use Rattle.nesl_prompt.proofs.Conversations.{replied_then}
+use Rattle.nesl_prompt.specs.Conversation.{IsReplyText, TakesLine, gathers, answers, runs_out, Turn, own, waits, takes}
+use Rattle.nesl_prompt.specs.Laws.{IsTheSessions, PromptsAreSessions, replies_of}
+use Rattle.nesl_prompt.proofs.Conversations.{replied_then, written_whole}
 
 replies-append : (xs ys : List LineAndReply) → replies_of (xs ++ ys) ≡ replies_of xs ++ replies_of ys
 replies-append [] ys = refl
@@ -22,12 +21,12 @@ one_given : (log log' : Log) (line text : List ℕ) (reply : Reply) → Responds
 one_given log log' line text reply r t = record {
   said = record { line = line; reply = reply } ∷ [];
   replied = (log', r, refl);
-  replies = t.spelled ∙ ap (λ m. reply.bytes ++ m) (t.below.alone refl);
+  replies = written_whole reply.bytes t.more text t.written ∙ ap (λ m. reply.bytes ++ m) (t.below.alone refl);
 }
 
 takes_session : (point point' : Point) (line text : List ℕ) → TakesLine true point line text point' → IsTheSessions point.log text point'.log
 takes_session point point' line text (gathers g f l p) = nothing_given point.log point'.log text l (p refl)
-takes_session point point' line text (answers reply r f t) = one_given point.log point'.log (joined point.form line) text reply r t
+takes_session point point' line text (answers reply ends r f t) = one_given point.log point'.log (joined point.form line) text reply r t
 takes_session point point' line text (runs_out f l t) = one_given point.log point'.log (joined point.form line) text no_memory (refl, l) t
 
 turn_session : (point point' : Point) (line text : List ℕ) → is_own line ≡ false → Turn true point line text point' → IsTheSessions point.log text point'.log

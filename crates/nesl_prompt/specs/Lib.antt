@@ -2,3 +2,4 @@ pub mod Words
 pub mod Points
 pub mod Conversation
 pub mod Laws
+pub mod Text

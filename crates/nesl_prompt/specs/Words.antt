@@ -3,7 +3,7 @@ use Rattle.std.specs.Prelude.{ℕ, List, Bool, true, false, not, nat_eq, ◌&&�
 use Rattle.std.specs.List.{AllByRecursion, ends_with, list_any, starts_with}
 use Rattle.std.specs.Prelude.{◌≡◌}
 use Rattle.nesl_prompt.specs.declared.word.Word.{Word}
-use Rattle.nesl_prompt.specs.declared.word.Word.TheVariants.{Help, TypeOf, Kept, Load, Save, Quit}
+use Rattle.nesl_prompt.specs.declared.word.Word.TheVariants.{Help, TypeOf, More, Cost, Kept, Load, Save, Quit}
 
 abbrev pub begins : (line head : List ℕ) → Bool
 begins line head = starts_with nat_eq line head
@@ -21,16 +21,22 @@ asks_type line =
 abbrev pub gives_lines : List ℕ → Bool
 gives_lines line = begins line (codes ":load") || asks_type line
 
+-- a line that ends the conversation while no form is unfinished
+abbrev pub is_quit : List ℕ → Bool
+is_quit line = begins line (codes ":quit")
+
 -- a line that is the prompt's own while no form is unfinished
 abbrev pub is_own : List ℕ → Bool
 is_own line =
-    begins line (codes ":help") || begins line (codes ":list") || begins line (codes ":save")
-    || begins line (codes ":quit") || gives_lines line
+    begins line (codes ":help") || begins line (codes ":more") || begins line (codes ":cost")
+    || begins line (codes ":list") || begins line (codes ":save") || is_quit line || gives_lines line
 
 -- whether the session is given lines for a word
 abbrev pub word_gives_lines : Word → Bool
 word_gives_lines (Help name) = false
 word_gives_lines (TypeOf name) = true
+word_gives_lines More = false
+word_gives_lines (Cost exp) = false
 word_gives_lines Kept = false
 word_gives_lines (Load file) = true
 word_gives_lines (Save file) = false

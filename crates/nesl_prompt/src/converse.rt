@@ -1,19 +1,20 @@
 //! A conversation at a prompt, from its greeting to its end.
-ghost use Rattle.std.specs.Prelude.{◌≡◌, ◌≢◌, [], false, true};
+ghost use Rattle.std.specs.Prelude.{◌≡◌, ◌≢◌, [], false, true, IfOk, OnErr};
 ghost use Rattle.nesl_line.specs.declared.exchange.End.{End};
 ghost use Rattle.nesl_prompt.specs.Conversation.{IsPrompt, Rests};
 ghost use Rattle.nesl_prompt.specs.Points.{is_plain};
+ghost use Rattle.nesl_prompt.specs.Text.{ConversesFirst, ConversesOver};
 
 use crate::desk::Desk;
 use crate::help::GREETING;
 use crate::shelf::Shelf;
-use crate::style::Style;
-use nesl_line::device::{Sink, Source};
+use crate::style::{PLAIN, Style};
+use nesl_line::device::{Device, Sink, Source};
 use nesl_line::exchange::{End, Ran, exchange};
 use nesl_line::hearer::Hearer;
 use nesl_line::tell::{say, tell};
 use nesl_session::session::Session;
-use std::alloc::Global;
+use std::alloc::{AllocError, Global};
 
 /// Answers the lines that the reader has. The session answers each form, and the prompt itself obeys its own words,
 /// such as `:help`. The conversation ends at the end of input, or at `:quit`.
@@ -46,6 +47,26 @@ pub fn converse<S: Source, W: Sink, F: Shelf>(
     Ran {
         lines: ran.lines,
         end: End::WriteFault,
+    }
+}
+
+/// Answers the lines of a text as a plain prompt does, and returns what it writes. If memory runs out, what was written
+/// is lost, and the session was given the first lines.
+pub fn converse_over<F: Shelf>(
+    alloc: Global,
+    text: &[u8],
+    session: &mut Session,
+    shelf: &F,
+) -> Result<Vec<u8>, AllocError>
+    ensures answered { IfOk result (λ written. ConversesOver session.old text.now written.items session.new) }
+    ensures refused { OnErr result (ConversesFirst session.old text.now session.new) }
+{
+    let mut reader = Device::new(text);
+    let mut writer = Device::new(Vec::new(alloc));
+    match converse(alloc, &mut reader, &mut writer, session, shelf, PLAIN).end {
+        End::Input => Ok(writer.into_inner()),
+        // No read of a text fails, and no text that fits in memory takes 2^32 reads.
+        End::ReadFault | End::WriteFault | End::NoMemory => Err(AllocError),
     }
 }
 

@@ -1,15 +1,18 @@
 //! The state of a prompt, and its answers to lines.
-ghost use Rattle.std.specs.Prelude.{◌≡◌, ℕ, ◌<◌, ◌≤◌, ◌++◌, List, Option, [], None, false, true, ⊤, codes, length};
+ghost use Rattle.std.specs.Prelude.{◌≡◌, ◌≢◌, ℕ, ◌<◌, ◌≤◌, ◌++◌, List, Option, [], None, false, true, ⊤};
+ghost use Rattle.std.specs.Prelude.{codes, length};
 ghost use Rattle.std.specs.Prelude.{IfSome, OnOk, OnErr, if◌then◌else◌};
 ghost use Rattle.nesl_reply.specs.declared.fault.Fault.{Fault};
 ghost use Rattle.nesl_session_meaning.specs.Solo.{Responds};
 ghost use Rattle.nesl_session_meaning.specs.Response.{Reply};
 ghost use Rattle.nesl_line.specs.Told.{text_told};
-ghost use Rattle.nesl_prompt.specs.Conversation.{Conversed, IsBelow, IsSign, IsReplyText, TakesLine, Turn};
+ghost use Rattle.nesl_prompt.specs.Conversation.{Conversed, EndsWithQuit, IsBelow, IsSign, IsReplyText};
+ghost use Rattle.nesl_prompt.specs.Conversation.{IsWritten, TakesLine, Turn};
 ghost use Rattle.nesl_prompt.specs.Points.{Obeyed, WasGiven, is_plain, joined};
-ghost use Rattle.nesl_prompt.specs.Words.{IsBlank, is_part, word_gives_lines};
+ghost use Rattle.nesl_prompt.specs.Words.{IsBlank, is_part, is_quit, word_gives_lines};
 
 use crate::caret::put_hint;
+use crate::cut::{cut_reply, is_cut};
 use crate::functions::put_types;
 use crate::help::{GOES_ON, lower, put_help};
 use crate::hints::hint_on;
@@ -17,8 +20,10 @@ use crate::kept::Kept;
 use crate::open::Open;
 use crate::shelf::{Shelf, ShelfFault};
 use crate::style::Style;
-use crate::word::{Word, is_blank, is_part, word_in};
+use crate::typed::Typed;
+use crate::word::{Word, is_blank, is_part, is_quit, word_in};
 use memchr::memchr;
+use nesl_cost_session::account_lines;
 use nesl_line::hearer::{Hearer, Told};
 use nesl_session::LONGEST;
 use nesl_session::answer::Answer;
@@ -33,8 +38,14 @@ pub struct Desk<'x, F> {
     style: Style,
     /// The lines so far of an unfinished form, joined by blanks.
     form: Vec<u8>,
+    /// The places of these blanks.
+    joints: Vec<usize>,
     open: Open,
+    /// Whether the last line of the form was blank.
+    is_paused: bool,
     kept: Kept,
+    /// The last reply that was cut.
+    long: Option<Answer>,
     is_over: bool,
     /// Whether the note on forms that go on was written.
     is_noted: bool,
@@ -45,13 +56,17 @@ impl<'x, F: Shelf> Desk<'x, F> {
     pub fn new(alloc: Global, shelf: &'x F, style: Style) -> Desk<'x, F>
         ensures form { result.form.items ≡ [] }
         ensures style { result.style ≡ style }
+        ensures open { result.is_over ≡ false }
     {
         Desk {
             shelf,
             style,
             form: Vec::new(alloc),
+            joints: Vec::new(alloc),
             open: Open::new(alloc),
+            is_paused: false,
             kept: Kept::new(alloc),
+            long: None,
             is_over: false,
             is_noted: false,
         }
@@ -65,7 +80,8 @@ impl<'x, F: Shelf> Desk<'x, F> {
 
     /// Whether a form is unfinished.
     pub fn has_form(&self) -> bool
-        ensures { result ≡ false → self.now.form.items ≡ [] }
+        ensures some { result ≡ true → self.now.form.items ≢ [] }
+        ensures none { result ≡ false → self.now.form.items ≡ [] }
     {
         !self.form.is_empty()
     }
@@ -78,30 +94,51 @@ impl<'x, F: Shelf> Desk<'x, F> {
         ensures style { self.new.style ≡ self.old.style }
     {
         self.open.clear();
+        self.is_paused = false;
         let form = mem::replace(&mut self.form, Vec::new(alloc));
+        let joints = mem::replace(&mut self.joints, Vec::new(alloc));
         let before = Vec::from_slice(alloc, session.pending());
         let answer = session.line(alloc, form.as_slice());
-        let more = self.below(alloc, session, style, whole(before, form), &answer);
-        Told::With(answer, more)
+        let typed = whole(before, Typed { form, joints });
+        let more = self.below(alloc, session, style, typed, &answer);
+        self.told_of(alloc, style, answer, more)
+    }
+
+    // Returns a reply with the text below it. Where there are prompts, a long reply is cut, and kept for `:more`.
+    fn told_of(&mut self, alloc: Global, style: Style, answer: Answer, more: Vec<u8>) -> Told
+        ensures told { (line : List ℕ) → IsWritten (is_plain style) answer.bytes more.items (text_told line result) }
+        ensures form { self.new.form ≡ self.old.form }
+        ensures style { self.new.style ≡ self.old.style }
+    {
+        if !is_cut(style, answer.bytes()) {
+            return Told::With(answer, more);
+        }
+        match cut_reply(alloc, answer.bytes(), more.as_slice()) {
+            Ok(text) => {
+                self.long = Some(answer);
+                Told::Text(text)
+            }
+            Err(_) => Told::With(answer, more),
+        }
     }
 
     // Returns the text below the reply to a form: a hint and a prompt, as far as the style has them. It keeps the form
-    // if the form bound a name. `form` is an error where there was no memory for it.
+    // if `:save` writes it. `typed` is an error where there was no memory for it.
     fn below(
         &mut self,
         alloc: Global,
         session: &Session,
         style: Style,
-        form: Result<Vec<u8>, AllocError>,
+        typed: Result<Typed, AllocError>,
         answer: &Answer,
     ) -> Vec<u8>
         ensures below { IsBelow (is_plain style) answer.now.fault result.items }
         ensures form { self.new.form ≡ self.old.form }
         ensures style { self.new.style ≡ self.old.style }
     {
-        let hint = hint_below(alloc, session, style, &form, answer);
-        if let Ok(form) = form {
-            let _ = self.kept.note(alloc, form, answer).is_ok();
+        let hint = hint_below(alloc, session, style, &typed, answer);
+        if let Ok(typed) = typed {
+            let _ = self.kept.note(alloc, typed, answer).is_ok();
         }
         with_prompt(style, !session.pending().is_empty(), hint)
     }
@@ -120,7 +157,7 @@ impl<'x, F: Shelf> Desk<'x, F> {
                 Told::With(Answer::no_memory(), more)
             }
             Ok(()) => {
-                if self.is_whole(alloc, line, is_begun) {
+                if self.is_whole(alloc, line, is_begun, style) {
                     return self.answer_form(alloc, session, style);
                 }
                 Told::Text(self.go_on(alloc, style))
@@ -140,6 +177,7 @@ impl<'x, F: Shelf> Desk<'x, F> {
             return Ok(());
         }
         self.form.reserve(line.len() + 1)?;
+        self.joints.push(self.form.len())?;
         self.form.push_reserved(b' ');
         if self.form.extend_from_slice(line).is_err() {
             unreachable!();
@@ -147,11 +185,12 @@ impl<'x, F: Shelf> Desk<'x, F> {
         Ok(())
     }
 
-    // Whether the form ends with this line. It also ends where it is longer than a session accepts, or where memory
-    // runs out.
-    fn is_whole(&mut self, alloc: Global, line: &[u8], is_begun: bool) -> bool
+    // Whether the form ends with this line. Where there are prompts, two blank lines end it. It also ends where it is
+    // longer than a session accepts, or where memory runs out.
+    fn is_whole(&mut self, alloc: Global, line: &[u8], is_begun: bool, style: Style) -> bool
         ensures short { result ≡ false → length self.old.form.items ≤ LONGEST }
-        ensures blank { result ≡ false → is_begun ≡ true → ¬ IsBlank line.now }
+        ensures blank { result ≡ true → style.prompts ≡ false → is_begun ≡ true → is_part line.now ≡ false
+            → IsBlank line.now → LONGEST < length self.old.form.items }
         ensures part { result ≡ false → is_part line.now ≡ false }
         ensures form { self.new.form ≡ self.old.form }
         ensures style { self.new.style ≡ self.old.style }
@@ -160,8 +199,10 @@ impl<'x, F: Shelf> Desk<'x, F> {
             return true;
         }
         if is_begun && is_blank(line) {
-            return true;
+            let was_paused = mem::replace(&mut self.is_paused, true);
+            return was_paused && style.prompts;
         }
+        self.is_paused = false;
         self.open.ends_with(alloc, line).unwrap_or(true)
     }
 
@@ -191,13 +232,12 @@ impl<'x, F: Shelf> Desk<'x, F> {
         ensures style { self.new.style ≡ self.old.style }
     {
         match word {
-            Word::Help(name) => put_help(alloc, out, &self.kept, name),
+            Word::Help(name) => put_help(alloc, out, session, &self.kept, name),
+            Word::More => put_long(out, self.long.as_ref()),
+            Word::Cost(exp) => put_account(alloc, out, session, exp),
             Word::Kept => self.kept.put(out),
             Word::Save(path) => self.save(alloc, path, out),
-            Word::Quit => {
-                self.is_over = true;
-                Ok(())
-            }
+            Word::Quit => Ok(()),
             Word::Load(path) => self.load(alloc, session, path, out),
             Word::TypeOf(name) => self.put_type_of(alloc, session, name, out),
         }
@@ -212,7 +252,7 @@ impl<'x, F: Shelf> Desk<'x, F> {
             None => Err(ShelfFault::Absent),
         };
         match saved {
-            Ok(()) => put_count(alloc, out, self.kept.len()),
+            Ok(()) => put_count(alloc, out, self.kept.count_forms()),
             Err(fault) => put_fault(alloc, out, "save", path, fault),
         }
     }
@@ -349,6 +389,26 @@ impl<'x, F: Shelf> Desk<'x, F> {
         put_text(out, &output)
     }
 
+    // Answers a line.
+    fn answer(&mut self, alloc: Global, session: &mut Session, line: &[u8]) -> Told
+        ensures turn { Turn (is_plain self.old.style) (record { form = self.old.form.items; log = session.old })
+            line.now (text_told line.now result) (record { form = self.new.form.items; log = session.new }) }
+        ensures style { self.new.style ≡ self.old.style }
+    {
+        if self.has_form() {
+            self.take(alloc, session, line, self.style)
+        } else {
+            self.hear_first(alloc, session, line)
+        }
+    }
+
+    // Whether the conversation ends with this line.
+    fn quits(&self, line: &[u8]) -> bool
+        ensures { result ≡ true → is_quit line.now ≡ true }
+    {
+        !self.has_form() && is_quit(line)
+    }
+
     // Answers a line while no form is unfinished.
     fn hear_first(&mut self, alloc: Global, session: &mut Session, line: &[u8]) -> Told
         requires form { self.old.form.items ≡ [] }
@@ -367,7 +427,7 @@ impl<'x, F: Shelf> Desk<'x, F> {
         }
     }
 
-    // Obeys a word of the prompt, and returns the text to write.
+    // Obeys a word of the prompt, and returns the text to write. No prompt follows the last word.
     fn obey_word(&mut self, alloc: Global, session: &mut Session, word: Word<'_>) -> Told
         requires form { self.old.form.items ≡ [] }
         ensures said { Obeyed (word_gives_lines word.entry) session.old session.new }
@@ -376,7 +436,7 @@ impl<'x, F: Shelf> Desk<'x, F> {
     {
         let mut out = Vec::new(alloc);
         let obeyed = self.obey(alloc, session, word, &mut out);
-        if self.is_over {
+        if let Word::Quit = word {
             return Told::Text(out);
         }
         let is_open = !session.pending().is_empty();
@@ -395,18 +455,18 @@ impl<F: Shelf> Hearer for Desk<'_, F> {
 
     ghost heard = { λ first start now session lines texts. (now.style ≡ first.style)
         × Conversed (is_plain first.style) (record { form = first.form.items; log = start }) lines texts
-        (record { form = now.form.items; log = session }) };
+        (record { form = now.form.items; log = session })
+        × (now.is_over ≡ true → EndsWithQuit lines) };
 
     ghost over = { λ desk. desk.is_over };
 
     ghost ready = { λ desk session. ⊤ };
 
     fn hear(&mut self, alloc: Global, world: &mut Session, line: &[u8]) -> Told {
-        if self.form.is_empty() {
-            self.hear_first(alloc, world, line)
-        } else {
-            self.take(alloc, world, line, self.style)
-        }
+        let is_over = self.quits(line);
+        let told = self.answer(alloc, world, line);
+        self.is_over = is_over;
+        told
     }
 
     fn is_over(&self) -> bool {
@@ -436,13 +496,31 @@ fn put_callable(
 }
 
 // Joins a form to the parts of it that the session has already.
-fn whole(before: Result<Vec<u8>, AllocError>, form: Vec<u8>) -> Result<Vec<u8>, AllocError> {
-    let mut whole = before?;
-    if whole.is_empty() {
-        return Ok(form);
+fn whole(before: Result<Vec<u8>, AllocError>, typed: Typed) -> Result<Typed, AllocError> {
+    typed.after(before?)
+}
+
+// Writes the last reply that was cut, whole.
+fn put_long(out: &mut Vec<u8>, long: Option<&Answer>) -> Result<(), AllocError> {
+    match long {
+        Some(answer) => out.extend_from_slice(answer.bytes()),
+        None => out.extend_from_slice(b"no reply was cut so far\n"),
     }
-    whole.extend_from_slice(form.as_slice())?;
-    Ok(whole)
+}
+
+// Writes where the work and the depth of an expression come from. The session doesn't get it.
+fn put_account(
+    alloc: Global,
+    out: &mut Vec<u8>,
+    session: &Session,
+    exp: &[u8],
+) -> Result<(), AllocError> {
+    let lines = account_lines(alloc, session, exp)?;
+    for line in &lines {
+        out.extend_from_slice(line.bytes())?;
+        out.push(b'\n')?;
+    }
+    Ok(())
 }
 
 // Returns the hint below the reply to a form, if the style has hints and there is one.
@@ -450,7 +528,7 @@ fn hint_below(
     alloc: Global,
     session: &Session,
     style: Style,
-    form: &Result<Vec<u8>, AllocError>,
+    typed: &Result<Typed, AllocError>,
     answer: &Answer,
 ) -> Vec<u8>
     ensures wanted { style.hints ≡ false → result.items ≡ [] }
@@ -459,22 +537,22 @@ fn hint_below(
     if !style.hints || answer.fault().is_none() {
         return Vec::new(alloc);
     }
-    let Ok(form) = form else {
+    let Ok(typed) = typed else {
         return Vec::new(alloc);
     };
-    hint_text(alloc, session, form.as_slice(), answer).unwrap_or(Vec::new(alloc))
+    hint_text(alloc, session, typed, answer).unwrap_or(Vec::new(alloc))
 }
 
 // Returns the hint on a form with this answer, below the place that it is about.
 fn hint_text(
     alloc: Global,
     session: &Session,
-    form: &[u8],
+    typed: &Typed,
     answer: &Answer,
 ) -> Result<Vec<u8>, AllocError> {
     let mut out = Vec::new(alloc);
-    if let Some(hint) = hint_on(alloc, session, form, answer)? {
-        put_hint(&mut out, form, &hint)?;
+    if let Some(hint) = hint_on(alloc, session, typed.form.as_slice(), answer)? {
+        put_hint(alloc, &mut out, typed, &hint)?;
     }
     Ok(out)
 }

@@ -2,6 +2,9 @@
 
 use crate::functions::{put_functions, put_names};
 use crate::kept::Kept;
+use crate::wrapped::put_wrapped;
+use nesl_hints::hint;
+use nesl_session::session::Session;
 use std::alloc::{AllocError, Global};
 
 /// The greeting, and the first prompt.
@@ -10,10 +13,10 @@ pub const GREETING: &[u8] =
 there is, and `:quit` ends. A form ends in `;`, as in `2 * 3 + 1;`.\n> ";
 
 /// The note that is written the first time that a form goes on.
-pub const GOES_ON: &[u8] = b"  (the form goes on until its `;`, and an empty line ends it)\n";
+pub const GOES_ON: &[u8] = b"  (the form goes on until its `;`, and two empty lines end it)\n";
 
 const OVERVIEW: &[u8] = b"\
-A form ends in `;`, and may go on over several lines; an empty line ends it too.
+A form ends in `;`, and may go on over lines; two empty lines end it too.
 
   exp;                          evaluates, and binds the value to `it`
   name = exp;                   evaluates, and binds the value to the name
@@ -28,12 +31,13 @@ A form ends in `;`, and may go on over several lines; an empty line ends it too.
 Words of this prompt, which the session doesn't get:
   :help NAME   explains a function or a sign: `:help take`, `:help ++`
   :type NAME   shows the type of a function, too
-  :list        lists the forms that bound a name
+  :cost EXP    shows where the work and the depth of an expression come from
+  :more        writes the whole of a long reply, which was cut
+  :list        lists the forms that bound a name, and comments
   :save FILE   writes these into a file
   :load FILE   runs the lines of a file
   :quit        ends, as the end of input does
-
-Functions and signs:
+`:help functions` lists all functions and signs, and `:help let` explains `let`.
 ";
 
 /// The help on an apply-to-each.
@@ -97,14 +101,18 @@ datatype name type;
 pub fn put_help(
     alloc: Global,
     out: &mut Vec<u8>,
+    session: &Session,
     kept: &Kept,
     name: &[u8],
 ) -> Result<(), AllocError> {
     if name.is_empty() {
-        out.extend_from_slice(OVERVIEW)?;
-        return put_names(out);
+        return out.extend_from_slice(OVERVIEW);
     }
     let name = lower(alloc, name)?;
+    if name.as_slice() == b"functions".as_slice() {
+        out.extend_from_slice(b"Functions and signs:\n")?;
+        return put_names(out);
+    }
     if let Ok(text) = str::from_utf8(name.as_slice()) {
         if put_functions(alloc, out, text)? {
             return Ok(());
@@ -118,7 +126,7 @@ pub fn put_help(
         out.push(b'\n')?;
         return Ok(());
     }
-    put_unknown(out, name.as_slice())
+    put_unknown(alloc, out, session, name.as_slice())
 }
 
 // Writes the help on a form, and returns whether there is a form with this name.
@@ -133,10 +141,37 @@ fn put_form(out: &mut Vec<u8>, name: &[u8]) -> Result<bool, AllocError> {
     Ok(false)
 }
 
-fn put_unknown(out: &mut Vec<u8>, name: &[u8]) -> Result<(), AllocError> {
+// Writes that there is no help on a name, and the hint on a call of it, which tells a name that is near to it.
+fn put_unknown(
+    alloc: Global,
+    out: &mut Vec<u8>,
+    session: &Session,
+    name: &[u8],
+) -> Result<(), AllocError> {
     out.extend_from_slice(b"there is no help on `")?;
     out.extend_from_slice(name)?;
-    out.extend_from_slice(b"`; `:help` lists what there is\n")
+    out.extend_from_slice(b"`; `:help` lists what there is\n")?;
+    if !session.pending().is_empty() || !is_name(name) {
+        return Ok(());
+    }
+    let mut call = Vec::from_slice(alloc, name)?;
+    call.extend_from_slice(b"(0);")?;
+    match hint(alloc, session, call.as_slice())? {
+        Some(hint) => {
+            out.extend_from_slice(b"  ")?;
+            put_wrapped(out, hint.sentence.as_slice(), 2, b"  ")
+        }
+        None => Ok(()),
+    }
+}
+
+// Whether a text can be a name.
+fn is_name(text: &[u8]) -> bool {
+    let is_begun = text.first().is_some_and(|byte| byte.is_ascii_alphabetic());
+    is_begun
+        && text
+            .iter()
+            .all(|byte| byte.is_ascii_alphanumeric() || *byte == b'_')
 }
 
 /// Returns a text with its ASCII letters in lower case.

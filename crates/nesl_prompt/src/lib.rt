@@ -3,6 +3,7 @@
 
 mod caret;
 pub mod converse;
+mod cut;
 mod desk;
 mod functions;
 mod help;
@@ -13,5 +14,6 @@ mod open;
 mod rows;
 pub mod shelf;
 pub mod style;
+mod typed;
 mod word;
 mod wrapped;

@@ -11,6 +11,12 @@ pub struct Style {
     pub hints: bool,
 }
 
+/// Only the replies are written.
+pub const PLAIN: Style = Style {
+    prompts: false,
+    hints: false,
+};
+
 impl Style {
     /// Whether only the replies are written.
     pub fn is_plain(self) -> bool

@@ -1,6 +1,6 @@
 //! The prompt's own words.
 ghost use Rattle.std.specs.Prelude.{◌≡◌, false, true, IfNone, IfSome};
-ghost use Rattle.nesl_prompt.specs.Words.{IsBlank, asks_type, gives_lines, is_blank_byte, is_own, is_part};
+ghost use Rattle.nesl_prompt.specs.Words.{IsBlank, asks_type, gives_lines, is_blank_byte, is_own, is_part, is_quit};
 ghost use Rattle.nesl_prompt.specs.Words.{word_gives_lines};
 
 /// A word of the prompt's own, with its argument.
@@ -10,6 +10,10 @@ pub enum Word<'a> {
     Help(&'a [u8]),
     /// Writes the type of an expression, or of a function.
     TypeOf(&'a [u8]),
+    /// Writes the last reply that was cut, whole.
+    More,
+    /// Writes where the work and the depth of this expression come from.
+    Cost(&'a [u8]),
     /// Lists the kept forms.
     Kept,
     /// Has the session answer the lines of this file.
@@ -32,13 +36,19 @@ pub fn word_in(line: &[u8]) -> Option<Word<'_>>
     if line.starts_with(b":help") {
         return Some(Word::Help(argument_of(line)));
     }
+    if line.starts_with(b":more") {
+        return Some(Word::More);
+    }
+    if line.starts_with(b":cost") {
+        return Some(Word::Cost(argument_of(line)));
+    }
     if line.starts_with(b":list") {
         return Some(Word::Kept);
     }
     if line.starts_with(b":save") {
         return Some(Word::Save(argument_of(line)));
     }
-    if line.starts_with(b":quit") {
+    if is_quit(line) {
         return Some(Word::Quit);
     }
     if line.starts_with(b":load") {
@@ -48,6 +58,13 @@ pub fn word_in(line: &[u8]) -> Option<Word<'_>>
         return Some(Word::TypeOf(argument_of(line)));
     }
     None
+}
+
+/// Whether a line ends the conversation while no form is unfinished.
+pub fn is_quit(line: &[u8]) -> bool
+    ensures { result ≡ is_quit line.now }
+{
+    line.starts_with(b":quit")
 }
 
 fn is_type(line: &[u8]) -> bool
