@@ -44,6 +44,8 @@ struct Fence {
 struct Reader {
     exercise: Exercise,
     fence: Option<Fence>,
+    /// The backquotes of the block `exercise` in which the other blocks are, if they are in one.
+    around: Option<usize>,
     /// The points of the tests that come next.
     points: u64,
     /// The number of the line.
@@ -117,6 +119,7 @@ impl Reader {
                 },
             },
             fence: None,
+            around: None,
             points: 1,
             line: 0,
         }
@@ -130,8 +133,7 @@ impl Reader {
         match self.fence {
             None => {
                 if ticks >= 3 {
-                    let block = block_of(info);
-                    self.fence = Some(Fence { block, ticks });
+                    self.read_fence(ticks, info);
                 }
                 Ok(())
             }
@@ -141,6 +143,18 @@ impl Reader {
                     return Ok(());
                 }
                 self.read_inside(alloc, fence.block, line)
+            }
+        }
+    }
+
+    // Reads a line of backquotes outside the blocks. A longer text, as a lesson, may have a whole exercise in a block.
+    fn read_fence(&mut self, ticks: usize, info: &[u8]) {
+        match self.around {
+            Some(around) if ticks >= around && info.is_empty() => self.around = None,
+            None if info == b"exercise".as_slice() => self.around = Some(ticks),
+            _ => {
+                let block = block_of(info);
+                self.fence = Some(Fence { block, ticks });
             }
         }
     }
@@ -197,16 +211,20 @@ impl Reader {
         let Reader {
             exercise,
             fence,
+            around,
             line,
             ..
         } = self;
-        match fence {
-            None => Ok(exercise),
-            Some(_) => Err(ExerciseFault::Line {
+        if fence.is_some() || around.is_some() {
+            return Err(ExerciseFault::Line {
                 line,
                 expected: Expected::BlockEnd,
-            }),
+            });
         }
+        if exercise.tests.is_empty() {
+            return Err(ExerciseFault::NoTest);
+        }
+        Ok(exercise)
     }
 }
 

@@ -6,7 +6,7 @@ use thiserror::Error;
 /// What a line of an exercise should be.
 #[derive(Clone, Copy, PartialEq, Eq, Debug, Error)]
 pub enum Expected {
-    #[error("expected `EXPR => EXPR`, `EXPR is error NAME`, `for n in ..`, `with NAME` or `without NAME`")]
+    #[error("expected `EXPR => EXPR`, `EXPR is error NAME`, `for n in ..`, `with FEATURE` or `without FEATURE`")]
     Test,
     #[error("expected the name of a fault after `is error`, as `type`")]
     FaultName,
@@ -18,8 +18,8 @@ pub enum Expected {
     Bound,
     #[error("expected a whole number below 2^63")]
     Number,
-    #[error("expected one name")]
-    Name,
+    #[error("expected one name, word or sign of the language, as `rep`, `if` or `++`")]
+    Feature,
     #[error("expected `line_work N`, `session_work N` or `elements N`")]
     Limit,
     #[error("expected a line with three backquotes that ends the block")]
@@ -32,6 +32,8 @@ pub enum ExerciseFault {
     /// The line with this number, counted from 1, isn't as expected.
     #[error("line {line}: {expected}")]
     Line { line: u64, expected: Expected },
+    #[error("it has no tests")]
+    NoTest,
     #[error("out of memory")]
     Memory,
 }

@@ -16,9 +16,9 @@ pub enum Outcome {
     Refused(u64, Vec<u8>),
     /// At the number, the bound has no value.
     Unbounded(u64, BoundFault),
-    /// A name that has to be in the submission isn't there.
+    /// A feature that has to be in the submission isn't there.
     Absent,
-    /// A name that must not be in the submission is there.
+    /// A feature that must not be in the submission is there.
     Present,
 }
 

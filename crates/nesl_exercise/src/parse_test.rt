@@ -14,6 +14,9 @@ const EARLY: &[u8] = b"long lexical syntax nested unknown type ambiguous retype 
 const LATE: &[u8] =
     b"overflow division range code length empty permutation count stride deep large work elements";
 
+// The signs of the language that a submission may have to have.
+const SIGNS: &[u8] = b"{ [ ( | : :: = == /= < > <= >= + ++ - <- -> * / #";
+
 /// What a line of a block of tests says.
 #[derive(Drop)]
 pub enum TestLine {
@@ -40,10 +43,10 @@ pub fn parse_test(alloc: Global, line: &[u8]) -> Result<TestLine, LineFault> {
 
 fn parse_check(alloc: Global, line: &[u8]) -> Result<Check, LineFault> {
     if let Some(rest) = line.strip_prefix(b"with ".as_slice()) {
-        return parse_name(alloc, Wish::With, rest.trim_ascii());
+        return parse_feature(alloc, Wish::With, rest.trim_ascii());
     }
     if let Some(rest) = line.strip_prefix(b"without ".as_slice()) {
-        return parse_name(alloc, Wish::Without, rest.trim_ascii());
+        return parse_feature(alloc, Wish::Without, rest.trim_ascii());
     }
     if let Some(rest) = line.strip_prefix(b"for n in ".as_slice()) {
         return parse_for(alloc, rest);
@@ -57,15 +60,12 @@ fn parse_check(alloc: Global, line: &[u8]) -> Result<Check, LineFault> {
     Err(LineFault::Expected(Expected::Test))
 }
 
-fn parse_name(alloc: Global, wish: Wish, name: &[u8]) -> Result<Check, LineFault> {
-    if !is_name(name) {
-        return Err(LineFault::Expected(Expected::Name));
+fn parse_feature(alloc: Global, wish: Wish, feature: &[u8]) -> Result<Check, LineFault> {
+    if !is_name(feature) && !is_among(SIGNS, feature) {
+        return Err(LineFault::Expected(Expected::Feature));
     }
-    let mut small = Vec::new(alloc);
-    for byte in name {
-        small.push(byte.to_ascii_lowercase())?;
-    }
-    Ok(Check::Name { wish, name: small })
+    let feature = copy_of(alloc, feature)?;
+    Ok(Check::Feature { wish, feature })
 }
 
 fn parse_value(alloc: Global, exp: &[u8], expected: &[u8]) -> Result<Check, LineFault> {

@@ -3,7 +3,7 @@
 use crate::bound::Op;
 use crate::measure::Measure;
 
-/// Whether a submission has to have a name, or must not have it.
+/// Whether a submission has to have a feature, or must not have it.
 #[derive(Clone, Copy)]
 pub enum Wish {
     With,
@@ -38,10 +38,10 @@ pub enum Check {
         measure: Measure,
         bound: Vec<Op>,
     },
-    /// The name is in a form of the submission, or is in none.
-    Name {
+    /// The feature is in a form of the submission, or is in none: a name in letters of any size, a word or a sign.
+    Feature {
         wish: Wish,
-        name: Vec<u8>,
+        feature: Vec<u8>,
     },
 }
 

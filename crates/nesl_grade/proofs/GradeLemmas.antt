@@ -4,11 +4,7 @@ use Rattle.std.proofs.lemmas.List.{take_more}
 use Rattle.nesl_exercise.specs.declared.outcome.Outcome.{Outcome}
 use Rattle.nesl_grade.specs.declared.examined.Examined.{Examined}
 use Rattle.nesl_exercise.specs.declared.test.Test.{Test}
-use Rattle.std.specs.Prelude.{Option, IfSome}
-use Rattle.nesl_session_meaning.specs.declared.limits.Limits.{Limits}
-use Rattle.nesl_exercise.specs.declared.exercise.Exercise.{Exercise}
-use Rattle.nesl_exercise.specs.declared.outcome.Graded.{Graded}
-use Rattle.nesl_grade.specs.Grades.{IsExamined, Tells, TellsEach}
+use Rattle.nesl_grade.specs.Grades.{Tells, TellsEach}
 
 tells_more : (s : Examined) (ts : List Test) (os : List Outcome) (t : Test) (o : Outcome)
     → TellsEach s ts os → Tells s t.check o → TellsEach s (ts ++ t ∷ []) (os ++ o ∷ [])
@@ -23,11 +19,3 @@ pub tells_next : (s : Examined) (ts : List Test) (i : ℕ) (d : Test) (os : List
 tells_next s ts i d os o lt h k =
     subst (λ (xs : List Test). TellsEach s xs (os ++ o ∷ [])) (sym (take_more ts i d lt))
     (tells_more s (take i ts) os (get_or ts i d) o h k)
-
--- a text that was graded is the text that it is
-pub graded_same : (usual : Limits) (exercise : Exercise) (given text : List ℕ) (r : Option Graded) → given ≡ text
-    → IfSome r (λ g. (s : Examined) × IsExamined usual exercise given s × TellsEach s exercise.tests.items g.outcomes.items)
-    → IfSome r (λ g. (s : Examined) × IsExamined usual exercise text s × TellsEach s exercise.tests.items g.outcomes.items)
-graded_same usual exercise given text r e h =
-    subst (λ (t : List ℕ). IfSome r (λ g. (s : Examined) × IsExamined usual exercise t s
-    × TellsEach s exercise.tests.items g.outcomes.items)) e h

@@ -4,33 +4,35 @@ ghost use Rattle.nesl_gradebook.specs.declared.book.Submission.{Submission};
 ghost use Rattle.nesl_grade.specs.declared.examined.Examined.{Examined};
 ghost use Rattle.nesl_grade.specs.Grades.{IsExamined, IsGraded, TellsEach};
 
-use crate::curve::curves_of;
+use crate::adviser::Adviser;
+use crate::details::details_of;
 use crate::grade::{examined_by, grade};
 use nesl_exercise::exercise::Exercise;
-use nesl_exercise::outcome::{Graded, Point};
-use nesl_gradebook::book::Submission;
+use nesl_exercise::outcome::Graded;
+use nesl_gradebook::book::{Details, Submission, Submitted};
 use nesl_session::limits::Limits;
 use std::alloc::{AllocError, Global};
 use std::thread;
 use std::thread::Threads;
 
-/// Whether the costs of a submission are measured at all numbers of a row, for curves.
+/// Whether what pages have beside the outcomes is found, too: curves of costs, and hints.
 #[derive(Clone, Copy)]
 pub enum Extent {
     Outcomes,
-    Curves,
+    Details,
 }
 
 /// What submissions are graded by.
-#[derive(Clone, Copy)]
-pub struct Grader<'a> {
+#[derive(Drop)]
+pub struct Grader<'a, A> {
     pub alloc: Global,
     pub limits: Limits,
     pub exercise: &'a Exercise,
+    pub adviser: &'a A,
     pub extent: Extent,
 }
 
-impl Grader<'_> {
+impl<A: Adviser + Sync> Grader<'_, A> {
     /// Grades submissions on at most this many threads. One for which memory runs out has no grade afterwards.
     pub fn grade_all<R: Threads + Sync>(
         &self,
@@ -54,35 +56,43 @@ impl Grader<'_> {
     fn grade_one(&self, submission: &mut Submission)
         ensures { IsGraded self.now.limits self.now.exercise.now submission.old submission.new }
     {
-        let text = submission.text.as_slice();
-        let graded = self.graded_text(text);
-        let Ok(curves) = self.curves_for(text) else {
+        let graded = self.graded_forms(&submission.forms);
+        let Ok(details) = self.details_for(&submission.forms, graded.as_ref()) else {
             submission.graded = None;
             return;
         };
-        submission.curves = curves;
+        submission.details = details;
         submission.graded = graded;
     }
 
-    // Grades a text, if memory suffices for it.
-    fn graded_text(&self, text: &[u8]) -> Option<Graded>
-        ensures { IfSome result (λ graded. (s : Examined) × IsExamined self.now.limits self.now.exercise.now text.now s
+    // Grades a submission, if memory suffices for it.
+    fn graded_forms(&self, forms: &Submitted) -> Option<Graded>
+        ensures { IfSome result (λ graded. (s : Examined) × IsExamined self.now.limits self.now.exercise.now forms.now s
             × TellsEach s self.now.exercise.now.tests.items graded.outcomes.items) }
     {
-        match grade(self.alloc, self.limits, self.exercise, text) {
+        match grade(self.alloc, self.limits, self.exercise, forms) {
             Ok(graded) => Some(graded),
             Err(AllocError) => None,
         }
     }
 
-    // Measures a submission, if there are to be curves.
-    fn curves_for(&self, text: &[u8]) -> Result<Vec<Vec<Point>>, AllocError> {
-        match self.extent {
-            Extent::Outcomes => Ok(Vec::new(self.alloc)),
-            Extent::Curves => {
-                let examined = examined_by(self.alloc, self.limits, self.exercise, text)?;
-                curves_of(self.alloc, &examined, self.exercise.tests.as_slice())
-            }
-        }
+    // Finds what the page of a submission has beside its outcomes, if there are to be pages.
+    fn details_for(
+        &self,
+        forms: &Submitted,
+        graded: Option<&Graded>,
+    ) -> Result<Option<Details>, AllocError> {
+        let (Extent::Details, Some(graded)) = (self.extent, graded) else {
+            return Ok(None);
+        };
+        let examined = examined_by(self.alloc, self.limits, self.exercise, forms)?;
+        let details = details_of(
+            self.alloc,
+            self.adviser,
+            &examined,
+            self.exercise.tests.as_slice(),
+            graded.outcomes.as_slice(),
+        )?;
+        Ok(Some(details))
     }
 }

@@ -41,7 +41,7 @@ fn curve_of(alloc: Global, examined: &Examined, check: &Check) -> Result<Vec<Poi
             *measure,
             bound.as_slice(),
         ),
-        Check::Value { .. } | Check::Fault { .. } | Check::Name { .. } => Ok(Vec::new(alloc)),
+        Check::Value { .. } | Check::Fault { .. } | Check::Feature { .. } => Ok(Vec::new(alloc)),
     }
 }
 

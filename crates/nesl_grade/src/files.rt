@@ -1,6 +1,7 @@
 //! The files of a grading.
 
-use nesl_gradebook::book::Submission;
+use nesl_gradebook::book::{Refusal, Submission, Submitted};
+use nesl_gradebook::out::shown;
 use std::alloc::{AllocError, Global};
 use std::fs::{self, File, OpenOptions};
 use std::io::{self, Eprint, Read, Write};
@@ -25,6 +26,8 @@ pub(crate) enum FileFault {
     Irregular,
     #[error("its name isn't UTF-8")]
     Name,
+    #[error("it is no kept session")]
+    Strange,
     #[error("out of memory")]
     Memory,
     #[error("the system refuses it")]
@@ -70,6 +73,16 @@ impl<R: Eprint> Desk<'_, R> {
     /// Reports what is wrong with a file.
     pub(crate) fn report(&self, path: &str, fault: FileFault) {
         let _ = eprintln!(self.rt; "grade: {path}: {fault}").is_ok();
+    }
+
+    /// Reports a given form of an exercise that a session refuses.
+    pub(crate) fn report_refusal(&self, path: &str, refusal: &Refusal) -> Result<(), AllocError> {
+        let form = shown(self.alloc, refusal.form.as_slice())?;
+        let reply = shown(self.alloc, refusal.reply.as_slice())?;
+        let _ = eprintln!(self.rt;
+            "grade: {path}: what is given has an error: {form} gets {reply}"
+        ).is_ok();
+        Ok(())
     }
 }
 
@@ -121,12 +134,8 @@ impl<R: Files<File = File> + Eprint + Alloc + Clone + Drop> Desk<'_, R> {
         match self.read(path) {
             Ok(text) => {
                 let name = Vec::from_slice(self.alloc, path.as_bytes())?;
-                found.submissions.push(Submission {
-                    name,
-                    text,
-                    graded: None,
-                    curves: Vec::new(self.alloc),
-                })?;
+                let submission = Submission::new(name, Submitted::Text(text));
+                found.submissions.push(submission)?;
                 Ok(())
             }
             Err(FileFault::Memory) => Err(AllocError),

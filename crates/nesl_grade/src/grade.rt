@@ -2,15 +2,16 @@
 ghost use Rattle.std.specs.Prelude.{◌≡◌, ◌++◌, IfOk, map};
 ghost use Rattle.nesl_forms.specs.Forms.{lines_of};
 ghost use Rattle.nesl_grade.specs.declared.examined.Examined.{Examined};
-ghost use Rattle.nesl_grade.specs.Grades.{IsExamined, Tells, TellsEach, limits_for};
+ghost use Rattle.nesl_grade.specs.Grades.{IsExamined, Tells, TellsEach, forms_of, limits_for};
 
 use crate::check::{check_fault, check_row, check_value};
 use crate::examined::Examined;
+use crate::kept::copy_lines;
 use nesl_exercise::exercise::{Exercise, OwnLimits};
 use nesl_exercise::outcome::{Graded, Outcome};
 use nesl_exercise::test::{Check, Test, Wish};
 use nesl_forms::lines::lines_of;
-use nesl_lex::token::Kind;
+use nesl_gradebook::book::Submitted;
 use nesl_lex::{LexFault, lex};
 use nesl_session::limits::Limits;
 use std::alloc::{AllocError, Global};
@@ -21,12 +22,12 @@ pub fn grade(
     alloc: Global,
     limits: Limits,
     exercise: &Exercise,
-    submission: &[u8],
+    submission: &Submitted,
 ) -> Result<Graded, AllocError>
     ensures { IfOk result (λ graded. (s : Examined) × IsExamined limits exercise.now submission.now s
         × TellsEach s exercise.now.tests.items graded.outcomes.items) }
 {
-    let own = lines_of(alloc, submission)?;
+    let own = own_lines(alloc, submission)?;
     let examined = examined_by(alloc, limits, exercise, submission)?;
     let graded = check_all(alloc, &examined, own.as_slice(), exercise.tests.as_slice())?;
     Ok(graded)
@@ -64,7 +65,7 @@ pub fn examined_by(
     alloc: Global,
     limits: Limits,
     exercise: &Exercise,
-    submission: &[u8],
+    submission: &Submitted,
 ) -> Result<Examined, AllocError>
     ensures { IfOk result (IsExamined limits exercise.now submission.now) }
 {
@@ -77,14 +78,29 @@ pub fn examined_by(
     })
 }
 
-// The lines of two texts.
-fn joined_lines(alloc: Global, text: &[u8], other: &[u8]) -> Result<Vec<Vec<u8>>, AllocError>
-    ensures { IfOk result (λ lines. map (λ line. line.items) lines.items ≡ lines_of text.now ++ lines_of other.now) }
+// The lines of a text, and then those of a submission.
+fn joined_lines(
+    alloc: Global,
+    given: &[u8],
+    submission: &Submitted,
+) -> Result<Vec<Vec<u8>>, AllocError>
+    ensures { IfOk result (λ lines. map (λ line. line.items) lines.items
+        ≡ lines_of given.now ++ forms_of submission.now) }
 {
-    let mut lines = lines_of(alloc, text)?;
-    let mut others = lines_of(alloc, other)?;
-    lines.append(&mut others)?;
+    let mut lines = lines_of(alloc, given)?;
+    let mut own = own_lines(alloc, submission)?;
+    lines.append(&mut own)?;
     Ok(lines)
+}
+
+// The lines of a submission: the forms of its text, or those of a kept session.
+fn own_lines(alloc: Global, submission: &Submitted) -> Result<Vec<Vec<u8>>, AllocError>
+    ensures { IfOk result (λ lines. map (λ line. line.items) lines.items ≡ forms_of submission.now) }
+{
+    match submission {
+        Submitted::Text(text) => lines_of(alloc, text.as_slice()),
+        Submitted::Kept(lines) => copy_lines(alloc, lines.as_slice()),
+    }
 }
 
 // Limits, where an exercise sets none of its own.
@@ -131,18 +147,18 @@ fn check(
             *measure,
             bound.as_slice(),
         ),
-        Check::Name { wish, name } => check_name(alloc, own, *wish, name.as_slice()),
+        Check::Feature { wish, feature } => { check_feature(alloc, own, *wish, feature.as_slice()) }
     }
 }
 
-// Tests whether a name is in a form of the submission, or is in none.
-fn check_name(
+// Tests whether a feature is in a form of the submission, or is in none.
+fn check_feature(
     alloc: Global,
     own: &[Vec<u8>],
     wish: Wish,
-    name: &[u8],
+    feature: &[u8],
 ) -> Result<Outcome, AllocError> {
-    let is_there = is_named(alloc, own, name)?;
+    let is_there = is_used(alloc, own, feature)?;
     match wish {
         Wish::With => Ok(if is_there {
             Outcome::Passed
@@ -157,26 +173,26 @@ fn check_name(
     }
 }
 
-fn is_named(alloc: Global, own: &[Vec<u8>], name: &[u8]) -> Result<bool, AllocError> {
+fn is_used(alloc: Global, own: &[Vec<u8>], feature: &[u8]) -> Result<bool, AllocError> {
     for line in own {
-        if line_has(alloc, line.as_slice(), name)? {
+        if line_has(alloc, line.as_slice(), feature)? {
             return Ok(true);
         }
     }
     Ok(false)
 }
 
-fn line_has(alloc: Global, line: &[u8], name: &[u8]) -> Result<bool, AllocError> {
+// Whether a token of a line is written so, in letters of any size.
+fn line_has(alloc: Global, line: &[u8], feature: &[u8]) -> Result<bool, AllocError> {
     let tokens = match lex(alloc, line) {
         Ok(tokens) => tokens,
         Err(LexFault::Lexical { .. }) => return Ok(false),
         Err(_) => return Err(AllocError),
     };
     for token in &tokens {
-        if let Kind::Name(found) = &token.kind {
-            if found.as_slice() == name {
-                return Ok(true);
-            }
+        let text = line.get(token.span.start..token.span.end).unwrap_or(&[]);
+        if text.eq_ignore_ascii_case(feature) {
+            return Ok(true);
         }
     }
     Ok(false)

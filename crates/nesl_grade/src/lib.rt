@@ -2,13 +2,17 @@
 //! nothing else.
 #![tactic(auto)]
 
+mod accounts;
+pub mod adviser;
 pub mod check;
 pub mod class;
 mod cost;
 mod curve;
+mod details;
 pub mod examined;
 mod files;
 pub mod grade;
+pub mod kept;
 mod line;
 mod reply;
 pub mod run;

@@ -11,8 +11,12 @@ use nesl_session::limits::Limits;
 use nesl_session::session::Session;
 use std::alloc::{AllocError, Global};
 
-// Returns a session that got these lines, one after another.
-fn say_all(alloc: Global, limits: Limits, lines: &[Vec<u8>]) -> Result<Session, AllocError>
+/// Returns a session that got these lines, one after another.
+pub(crate) fn say_all(
+    alloc: Global,
+    limits: Limits,
+    lines: &[Vec<u8>],
+) -> Result<Session, AllocError>
     ensures { IfOk result (HasSaid limits (map (λ line. line.items) lines.now)) }
 {
     goes_on();
@@ -23,8 +27,8 @@ fn say_all(alloc: Global, limits: Limits, lines: &[Vec<u8>]) -> Result<Session, 
     Ok(session)
 }
 
-// Says a line. Where memory runs out, there is no answer.
-fn say(alloc: Global, session: &mut Session, line: &[u8]) -> Result<Answer, AllocError>
+/// Says a line. Where memory runs out, there is no answer.
+pub(crate) fn say(alloc: Global, session: &mut Session, line: &[u8]) -> Result<Answer, AllocError>
     ensures { IfOk result (λ reply. SessionAnswers session.old (line.now ∷ []) (reply ∷ []) session.new) }
 {
     let answer = session.line(alloc, line);

@@ -1,11 +1,16 @@
 //! A whole grading: the exercise and the submissions are read, graded and reported on.
 ghost use Rattle.std.specs.Prelude.{◌<◌};
 
+use crate::adviser::Adviser;
 use crate::class::{Extent, Grader};
+use crate::details::refused_forms;
+use crate::examined::Examined;
 use crate::files::{Desk, FileFault, Found};
+use crate::grade::examined_by;
+use crate::kept::{KeptFault, kept_forms};
 use nesl_exercise::exercise::{Exercise, parse_exercise};
 use nesl_exercise::fault::ExerciseFault;
-use nesl_gradebook::book::{Book, Submission};
+use nesl_gradebook::book::{Book, Submission, Submitted};
 use nesl_gradebook::class_page::class_page_of;
 use nesl_gradebook::csv_text::csv_of;
 use nesl_gradebook::json::json_of;
@@ -50,6 +55,20 @@ pub struct GradeOrder<'a> {
     pub shows_progress: bool,
 }
 
+/// The file of the kept session of a user.
+#[derive(Drop)]
+pub struct KeptFile {
+    pub user: String,
+    pub bytes: Vec<u8>,
+}
+
+/// The kept sessions of a class, and the number of those that could not be read, which is reported already.
+#[derive(Drop)]
+pub struct KeptClass {
+    pub files: Vec<KeptFile>,
+    pub unread: u64,
+}
+
 /// Why a grading ended early.
 #[derive(Clone, Copy, PartialEq, Eq, Debug, Error)]
 pub enum GradeFault {
@@ -89,26 +108,40 @@ impl<T: Drop> From<AllocFailed<T>> for GradeFault {
 }
 
 /// Grades submissions by an exercise, and writes the report. Each submission that can be read is graded, and its grade
-/// is reported, even if others can't be read.
-pub fn run<R: Files<File = File> + Print + Eprint + Threads + Alloc + Clone + Drop + Sync>(
+/// is reported, even if others can't be read. Kept sessions come after the submissions that the order names. If there
+/// are to be pages, this needs a stack for accounts.
+pub fn run<
+    R: Files<File = File> + Print + Eprint + Threads + Alloc + Clone + Drop + Sync,
+    A: Adviser + Sync,
+>(
     rt: &R,
     alloc: Global,
     order: &GradeOrder<'_>,
+    kept: KeptClass,
+    adviser: &A,
 ) -> Result<(), GradeFault> {
     let desk = Desk { rt, alloc };
     let exercise = read_exercise(&desk, order.exercise)?;
+    require_usable(&desk, order, &exercise, adviser)?;
     let mut found = Found {
         submissions: Vec::new(alloc),
-        unread: 0,
+        unread: kept.unread,
     };
     find_all(&desk, order, &exercise, &mut found)?;
-    grade_all(
-        rt,
+    add_kept(&desk, kept.files, &mut found)?;
+    require_some(&found)?;
+    let grader = Grader {
         alloc,
-        order,
-        &exercise,
-        found.submissions.as_mut_slice(),
-    )?;
+        limits: order.limits,
+        exercise: &exercise,
+        adviser,
+        extent: match order.html {
+            Some(_) => Extent::Details,
+            None => Extent::Outcomes,
+        },
+    };
+    grade_all(rt, order, &grader, found.submissions.as_mut_slice())?;
+    grader.explain_all(found.submissions.as_mut_slice())?;
     let book = Book {
         exercise: order.exercise.as_bytes(),
         tests: exercise.tests.as_slice(),
@@ -143,7 +176,35 @@ fn read_exercise<R: Files<File = File> + Eprint + Alloc + Clone + Drop>(
     }
 }
 
-// Adds the submissions of the order. Fails if there is none at all.
+// Fails if a session refuses what the exercise gives, or if a solution is to be graded and there is none.
+fn require_usable<R: Files<File = File> + Eprint + Alloc + Clone + Drop, A: Adviser>(
+    desk: &Desk<'_, R>,
+    order: &GradeOrder<'_>,
+    exercise: &Exercise,
+    adviser: &A,
+) -> Result<(), GradeFault> {
+    if order.is_try && exercise.solution.is_empty() {
+        let _ = eprintln!(desk.rt; "grade: {0}: it has no solution", order.exercise).is_ok();
+        return Err(GradeFault::Reported);
+    }
+    let none = Submitted::Kept(Vec::new(desk.alloc));
+    let Examined { limits, given, .. } = examined_by(desk.alloc, order.limits, exercise, &none)?;
+    let alone = Examined {
+        limits,
+        given: Vec::new(desk.alloc),
+        lines: given,
+    };
+    let refusals = refused_forms(desk.alloc, adviser, &alone)?;
+    match refusals.first() {
+        None => Ok(()),
+        Some(refusal) => {
+            desk.report_refusal(order.exercise, refusal)?;
+            Err(GradeFault::Reported)
+        }
+    }
+}
+
+// Adds the submissions of the order.
 fn find_all<R: Files<File = File> + Eprint + Alloc + Clone + Drop>(
     desk: &Desk<'_, R>,
     order: &GradeOrder<'_>,
@@ -157,44 +218,56 @@ fn find_all<R: Files<File = File> + Eprint + Alloc + Clone + Drop>(
     for path in order.paths {
         desk.add(found, *path)?;
     }
-    if found.submissions.is_empty() {
-        return Err(if found.unread > 0 {
-            GradeFault::Reported
-        } else {
-            GradeFault::NoSubmission
-        });
-    }
     Ok(())
 }
 
 fn solution_of(alloc: Global, exercise: &Exercise) -> Result<Submission, AllocError> {
     let name = Vec::from_slice(alloc, b"solution")?;
     let text = Vec::from_slice(alloc, exercise.solution.as_slice())?;
-    Ok(Submission {
-        name,
-        text,
-        graded: None,
-        curves: Vec::new(alloc),
+    Ok(Submission::new(name, Submitted::Text(text)))
+}
+
+// Adds kept sessions. A file that isn't one is reported.
+fn add_kept<R: Eprint>(
+    desk: &Desk<'_, R>,
+    files: Vec<KeptFile>,
+    found: &mut Found,
+) -> Result<(), AllocError> {
+    for file in files {
+        match kept_forms(desk.alloc, file.bytes.as_slice()) {
+            Ok(forms) => {
+                let name = file.user.into_bytes();
+                found.submissions.push(Submission::new(name, forms))?;
+            }
+            Err(KeptFault::Memory) => return Err(AllocError),
+            Err(KeptFault::Strange) => {
+                desk.report(file.user.as_str(), FileFault::Strange);
+                found.unread = found.unread.saturating_add(1);
+            }
+        }
+    }
+    Ok(())
+}
+
+// Fails if there is no submission at all.
+fn require_some(found: &Found) -> Result<(), GradeFault> {
+    if !found.submissions.is_empty() {
+        return Ok(());
+    }
+    Err(if found.unread > 0 {
+        GradeFault::Reported
+    } else {
+        GradeFault::NoSubmission
     })
 }
 
 // Grades all submissions, and shows how many are graded.
-fn grade_all<R: Eprint + Threads + Sync>(
+fn grade_all<R: Eprint + Threads + Sync, A: Adviser + Sync>(
     rt: &R,
-    alloc: Global,
     order: &GradeOrder<'_>,
-    exercise: &Exercise,
+    grader: &Grader<'_, A>,
     submissions: &mut [Submission],
 ) -> Result<(), GradeFault> {
-    let grader = Grader {
-        alloc,
-        limits: order.limits,
-        exercise,
-        extent: match order.html {
-            Some(_) => Extent::Curves,
-            None => Extent::Outcomes,
-        },
-    };
     let threads = if order.threads == 0 { 1 } else { order.threads };
     let share = threads.saturating_mul(SHARE);
     let all = submissions.len();

@@ -3,7 +3,7 @@
 use crate::book::{Book, Submission};
 use crate::out::{Escape, Out};
 use crate::page::put_head;
-use crate::told::{Told, is_hidden};
+use crate::told::{is_hidden, put_failure};
 use nesl_exercise::test::Test;
 use std::alloc::{AllocError, Global};
 
@@ -39,9 +39,7 @@ fn put_row(out: &mut Out, tests: &[Test], number: u64, submission: &Submission) 
     out.put_named(" of ", submission.most());
     out.put("</td><td>");
     if let Some((test, outcome)) = submission.first_failed(tests) {
-        out.put_named("line ", test.line);
-        out.put(if is_hidden(test) { " (hidden): " } else { ": " });
-        Told::of(outcome).put_reason(out, Escape::Markup);
+        put_failure(out, Escape::Markup, test, outcome);
     }
     out.put("</td></tr>\n");
 }

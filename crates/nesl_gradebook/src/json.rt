@@ -1,77 +1,77 @@
 //! Grades as JSON: an array with an object for each submission.
 
 use crate::book::{Book, Submission};
-use crate::csv_text::wide;
-use crate::out::{Escape, Out};
+use crate::out::shown;
 use crate::told::{Told, audience_word};
 use nesl_exercise::outcome::Outcome;
 use nesl_exercise::test::Test;
+use serde::Serialize;
 use std::alloc::{AllocError, Global};
+
+// A submission.
+#[derive(Drop, Serialize)]
+struct Entry {
+    submission: String,
+    points: u64,
+    most: u64,
+    tests: Vec<Row>,
+}
+
+// A test of a submission. Numbers that are missing are null.
+#[derive(Drop, Serialize)]
+struct Row {
+    line: u64,
+    test: String,
+    audience: &'static str,
+    points: u64,
+    outcome: &'static str,
+    n: Option<u64>,
+    cost: Option<u64>,
+    bound: Option<u128>,
+    got: String,
+    wanted: String,
+}
 
 /// Returns the grades of submissions as JSON.
 pub fn json_of(alloc: Global, book: &Book<'_>) -> Result<Vec<u8>, AllocError> {
-    let mut out = Out::new(alloc);
-    let mut mark = "[\n";
+    let mut entries = Vec::new(alloc);
     for submission in book.submissions {
-        out.put(mark);
-        put_entry(&mut out, book.tests, submission);
-        mark = ",\n";
+        entries.push(entry_of(alloc, book.tests, submission)?)?;
     }
-    out.put(if book.submissions.is_empty() {
-        "[]\n"
-    } else {
-        "\n]\n"
-    });
-    out.finish()
+    let Ok(mut text) = serde_json::to_vec_pretty(alloc, &entries) else {
+        return Err(AllocError);
+    };
+    text.push(b'\n')?;
+    Ok(text)
 }
 
-fn put_entry(out: &mut Out, tests: &[Test], submission: &Submission) {
-    out.put("  {\"submission\": ");
-    put_string(out, submission.name.as_slice());
-    out.put_named(", \"points\": ", submission.points());
-    out.put_named(", \"most\": ", submission.most());
-    out.put(", \"tests\": [");
-    let mut mark = "\n";
+fn entry_of(alloc: Global, tests: &[Test], submission: &Submission) -> Result<Entry, AllocError> {
+    let mut rows = Vec::new(alloc);
     for (place, test) in tests.iter().enumerate() {
         if let Some(outcome) = submission.outcomes().get(place) {
-            out.put(mark);
-            put_test(out, test, outcome);
-            mark = ",\n";
+            rows.push(row_of(alloc, test, outcome)?)?;
         }
     }
-    out.put("\n  ]}");
+    Ok(Entry {
+        submission: shown(alloc, submission.name.as_slice())?,
+        points: submission.points(),
+        most: submission.most(),
+        tests: rows,
+    })
 }
 
-fn put_test(out: &mut Out, test: &Test, outcome: &Outcome) {
+fn row_of(alloc: Global, test: &Test, outcome: &Outcome) -> Result<Row, AllocError> {
     let told = Told::of(outcome);
-    out.put_named("    {\"line\": ", test.line);
-    out.put(", \"test\": ");
-    put_string(out, test.text.as_slice());
-    out.put(", \"audience\": ");
-    put_string(out, audience_word(test).as_bytes());
-    out.put_named(", \"points\": ", test.points);
-    out.put(", \"outcome\": ");
-    put_string(out, told.word.as_bytes());
-    put_number(out, ", \"n\": ", wide(told.n));
-    put_number(out, ", \"cost\": ", wide(told.cost));
-    put_number(out, ", \"bound\": ", told.bound);
-    out.put(", \"got\": ");
-    put_string(out, told.got.trim_ascii());
-    out.put(", \"wanted\": ");
-    put_string(out, told.wanted.trim_ascii());
-    out.put("}");
-}
-
-fn put_number(out: &mut Out, name: &str, number: Option<u128>) {
-    out.put(name);
-    match number {
-        Some(number) => out.put_number(number),
-        None => out.put("null"),
-    }
-}
-
-fn put_string(out: &mut Out, text: &[u8]) {
-    out.put("\"");
-    out.put_shown(Escape::Json, text);
-    out.put("\"");
+    Ok(Row {
+        line: test.line,
+        test: shown(alloc, test.text.as_slice())?,
+        audience: audience_word(test),
+        points: test.points,
+        outcome: told.word,
+        n: told.n,
+        cost: told.cost,
+        bound: told.bound,
+        got: shown(alloc, told.got.trim_ascii())?,
+        wanted: shown(alloc, told.wanted.trim_ascii())?,
+    })
 }

@@ -5,12 +5,8 @@ use std::alloc::{AllocError, Global};
 /// How a text that strangers wrote is written, so that it can't end what it is part of.
 #[derive(Clone, Copy)]
 pub(crate) enum Escape {
-    /// On a terminal.
+    /// On a terminal, or where a library writes the signs around it.
     Plain,
-    /// Between the quotes of CSV.
-    Csv,
-    /// Between the quotes of JSON.
-    Json,
     /// In XML or HTML. Line ends and tabs stay.
     Markup,
 }
@@ -52,7 +48,8 @@ impl Out {
         self.put_number(u128::from(number));
     }
 
-    /// Appends a text that strangers wrote. Bytes that aren't UTF-8 are replaced, and control characters left out.
+    /// Appends a text that strangers wrote. Bytes that aren't UTF-8 are replaced, and control characters are left out,
+    /// also those that turn the direction of a text.
     pub(crate) fn put_shown(&mut self, escape: Escape, text: &[u8]) {
         self.put_shown_up_to(escape, text, usize::MAX);
     }
@@ -93,24 +90,38 @@ impl Out {
     }
 }
 
+/// Returns a text that strangers wrote as UTF-8 without control characters.
+pub fn shown(alloc: Global, text: &[u8]) -> Result<String, AllocError> {
+    let mut out = Out::new(alloc);
+    out.put_shown(Escape::Plain, text);
+    if out.is_lost {
+        return Err(AllocError);
+    }
+    let Out { text, .. } = out;
+    Ok(text)
+}
+
 // Whether a character is written where it is not escaped. XML has no place for the last two.
 fn is_shown(character: char) -> bool {
-    !character.is_control() && character != '\u{fffe}' && character != '\u{ffff}'
+    !character.is_control()
+        && !turns_text(character)
+        && character != '\u{fffe}'
+        && character != '\u{ffff}'
+}
+
+// Whether a character ends a line, or turns the direction of what is written beside it.
+fn turns_text(character: char) -> bool {
+    character == '\u{61c}'
+        || character == '\u{200e}'
+        || character == '\u{200f}'
+        || (character >= '\u{2028}' && character <= '\u{202e}')
+        || (character >= '\u{2066}' && character <= '\u{2069}')
 }
 
 // What is written in place of a character.
 fn escaped(escape: Escape, character: char) -> Option<&'static str> {
     match escape {
         Escape::Plain => None,
-        Escape::Csv => match character {
-            '"' => Some("\"\""),
-            _ => None,
-        },
-        Escape::Json => match character {
-            '"' => Some("\\\""),
-            '\\' => Some("\\\\"),
-            _ => None,
-        },
         Escape::Markup => in_markup(character),
     }
 }

@@ -25,8 +25,8 @@ impl<'a> Told<'a> {
     pub(crate) fn of(outcome: &'a Outcome) -> Told<'a> {
         match outcome {
             Outcome::Passed => Told::of_word("passed", b""),
-            Outcome::Absent => Told::of_word("absent", b"the name is in no form"),
-            Outcome::Present => Told::of_word("present", b"the name is in a form"),
+            Outcome::Absent => Told::of_word("absent", b"it is in no form"),
+            Outcome::Present => Told::of_word("present", b"it is in a form"),
             Outcome::Other(got, wanted) => Told {
                 wanted: wanted.as_slice(),
                 ..Told::of_word("other", got.as_slice())
@@ -73,9 +73,24 @@ impl<'a> Told<'a> {
         out.put_shown_up_to(escape, self.got.trim_ascii(), MOST_SHOWN);
         if !self.wanted.is_empty() {
             out.put(", wanted ");
+            // A reply ends with a line end, and the name of a fault doesn't.
+            if !self.wanted.ends_with(b"\n") {
+                out.put("fault ");
+            }
             out.put_shown_up_to(escape, self.wanted.trim_ascii(), MOST_SHOWN);
         }
     }
+}
+
+/// Appends the line of a test in its exercise, and why a submission doesn't pass it.
+pub(crate) fn put_failure(out: &mut Out, escape: Escape, test: &Test, outcome: &Outcome) {
+    out.put_named("line ", test.line);
+    out.put(if is_hidden(test) { " (hidden): " } else { ": " });
+    if let Outcome::Absent | Outcome::Present = outcome {
+        out.put_shown_up_to(escape, test.text.as_slice(), MOST_SHOWN);
+        out.put(": ");
+    }
+    Told::of(outcome).put_reason(out, escape);
 }
 
 fn fault_text(fault: BoundFault) -> &'static [u8] {

@@ -1,0 +1,6 @@
+use Rattle.std.proofs.Common.{◌≡◌, map, take}
+use Rattle.nesl_grade.proofs.kept.copy_lines.Given as goal
+
+abbrev pub invariant-loop-line : goal.invariant-loop-line
+invariant-loop-line l =
+    map (λ line. line.items) l.copy.items ≡ map (λ line. line.items) (take l.line-index l.lines)
