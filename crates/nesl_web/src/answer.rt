@@ -1,5 +1,6 @@
 //! The answers to requests: a file of the page, a refusal, or the switch to a WebSocket.
 
+use crate::asked::{HINTS, Subprotocol};
 use http1::WriteError;
 use http1::head::{Header, write_response};
 use nesl_web_files::File;
@@ -90,6 +91,12 @@ const CLOSE_FIELD: Header<'static> = Header {
     value: b"close",
 };
 
+// The subprotocol with hints.
+const PROTOCOL_FIELD: Header<'static> = Header {
+    name: b"Sec-WebSocket-Protocol",
+    value: HINTS,
+};
+
 // The fields of an answer with a text of this kind, except for its length.
 fn text_fields(kind: &'static str) -> [Header<'static>; 7] {
     [
@@ -106,7 +113,7 @@ fn text_fields(kind: &'static str) -> [Header<'static>; 7] {
     ]
 }
 
-// The fields of an answer that switches to a WebSocket, except for the key.
+// The fields of an answer that switches to a WebSocket, except for the key and the subprotocol.
 fn upgrade_fields() -> [Header<'static>; 6] {
     [
         POLICY_FIELD,
@@ -137,7 +144,7 @@ fn text_head(
         name: b"Content-Length",
         value: length.as_bytes(),
     };
-    write_head(alloc, status, words, &text_fields(kind), length_field)
+    write_head(alloc, status, words, &text_fields(kind), &[length_field])
 }
 
 // Writes the head of an answer.
@@ -146,15 +153,15 @@ fn write_head(
     status: u16,
     words: &str,
     fields: &[Header<'_>],
-    last: Header<'_>,
+    more: &[Header<'_>],
 ) -> Result<Vec<u8>, WriteError> {
     let mut bytes = Vec::new(alloc);
-    write_response(&mut bytes, 1, status, words.as_bytes(), fields, &[last])?;
+    write_response(&mut bytes, 1, status, words.as_bytes(), fields, more)?;
     Ok(bytes)
 }
 
 /// Writes the head of the answer with this file.
-pub fn file_head(alloc: Global, file: File) -> Result<Vec<u8>, WriteError> {
+pub fn file_head(alloc: Global, file: File<'_>) -> Result<Vec<u8>, WriteError> {
     text_head(alloc, 200, "OK", file.kind, file.text.len())
 }
 
@@ -167,7 +174,7 @@ pub fn methods_answer(alloc: Global) -> Result<Vec<u8>, WriteError> {
         REFERRER_FIELD,
         ALLOW_FIELD,
     ];
-    write_head(alloc, 204, "No Content", &fields, CLOSE_FIELD)
+    write_head(alloc, 204, "No Content", &fields, &[CLOSE_FIELD])
 }
 
 /// Writes the answer that refuses a request, with or without its text.
@@ -192,16 +199,25 @@ pub fn refusal_answer(
 }
 
 /// Writes the answer that switches to a WebSocket. `key` proves that the request was understood.
-pub fn upgrade_answer(alloc: Global, key: &[u8; 28]) -> Result<Vec<u8>, WriteError> {
+pub fn upgrade_answer(
+    alloc: Global,
+    key: &[u8; 28],
+    subprotocol: Subprotocol,
+) -> Result<Vec<u8>, WriteError> {
     let accept_field = Header {
         name: b"Sec-WebSocket-Accept",
         value: key.as_slice(),
+    };
+    let more = [accept_field, PROTOCOL_FIELD];
+    let count = match subprotocol {
+        Subprotocol::Hints => 2,
+        Subprotocol::Plain => 1,
     };
     write_head(
         alloc,
         101,
         "Switching Protocols",
         &upgrade_fields(),
-        accept_field,
+        &more[..count],
     )
 }

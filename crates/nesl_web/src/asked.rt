@@ -9,6 +9,18 @@ use httparse::Status;
 use httparse::spans::{EMPTY_HEADER_SPAN, parse_request};
 use std::alloc::{AllocError, Global};
 
+/// The name of the subprotocol with hints.
+pub const HINTS: &[u8] = b"pazkindu.hints";
+
+/// What is sent on a WebSocket besides answers.
+#[derive(Clone, Copy, PartialEq, Eq, Debug)]
+pub enum Subprotocol {
+    /// Nothing.
+    Plain,
+    /// After a fault its hint, if it has one.
+    Hints,
+}
+
 /// A request for a session that was accepted.
 #[derive(Drop)]
 pub struct Asked {
@@ -16,6 +28,25 @@ pub struct Asked {
     pub head: Vec<u8>,
     /// The bytes that followed the head.
     pub first: Vec<u8>,
+    pub subprotocol: Subprotocol,
+}
+
+/// Returns the subprotocol that a head asks for. A client names those that it knows in any number of fields, with
+/// commas between.
+pub(crate) fn subprotocol_of(alloc: Global, head: &[u8]) -> Result<Subprotocol, AllocError> {
+    let values = values_in(alloc, head, b"Sec-WebSocket-Protocol")?;
+    if values.iter().any(|value| names_hints(*value)) {
+        Ok(Subprotocol::Hints)
+    } else {
+        Ok(Subprotocol::Plain)
+    }
+}
+
+// Whether one of the names between commas is that of the subprotocol with hints.
+fn names_hints(value: &[u8]) -> bool {
+    value
+        .split(|byte| *byte == b',')
+        .any(|name| name.trim_ascii() == HINTS)
 }
 
 /// Returns the values of all fields of a head with this name, in order.

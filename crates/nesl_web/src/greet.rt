@@ -1,7 +1,7 @@
 //! The start of a browser's connection.
 
 use crate::answer::{Content, Refusal, file_head, methods_answer, refusal_answer, upgrade_answer};
-use crate::asked::Asked;
+use crate::asked::{Asked, subprotocol_of};
 use crate::head::{HeadFault, read_head};
 use crate::lines::Patience;
 use crate::route::{PageTerms, Route, content_for, route_for};
@@ -65,7 +65,7 @@ fn lost_error() -> io::Error {
 fn send_file<R: Clock>(
     alloc: Global,
     mut wire: Wire<'_, R>,
-    file: File,
+    file: File<'_>,
     content: Content,
 ) -> io::Result<Greeted> {
     let Ok(head) = file_head(alloc, file) else {
@@ -115,10 +115,15 @@ fn accept_session<R: Clock>(
     bytes: Vec<u8>,
     head_bytes: usize,
 ) -> io::Result<Greeted> {
-    let Ok(answer) = upgrade_answer(alloc, accept_key) else {
+    let subprotocol = subprotocol_of(alloc, bytes.as_slice())?;
+    let Ok(answer) = upgrade_answer(alloc, accept_key, subprotocol) else {
         return Err(lost_error());
     };
     let first = Vec::from_slice(alloc, bytes.get(head_bytes..).unwrap_or(&[]))?;
     wire.write_all(answer.as_slice())?;
-    Ok(Greeted::Session(Asked { head: bytes, first }))
+    Ok(Greeted::Session(Asked {
+        head: bytes,
+        first,
+        subprotocol,
+    }))
 }

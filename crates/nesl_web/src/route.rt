@@ -21,13 +21,15 @@ pub struct PageTerms<'x> {
     pub names: &'x [&'x [u8]],
     /// How long its sessions last.
     pub lasting: Lasting,
+    /// The lessons of a teacher in place of ours, in JSON.
+    pub lessons: Option<&'x str>,
 }
 
 /// How a request is answered.
 #[derive(Clone, Copy)]
-pub enum Route {
+pub enum Route<'x> {
     /// With a file of the page.
-    Page(File),
+    Page(File<'x>),
     /// With the supported methods.
     Methods,
     /// With a switch to a WebSocket.
@@ -54,7 +56,11 @@ pub fn is_whole(bytes: &[u8]) -> Result<bool, Refusal>
 }
 
 /// Returns the answer to the request with this head.
-pub fn route_for(alloc: Global, terms: &PageTerms<'_>, bytes: &[u8]) -> Result<Route, AllocError>
+pub fn route_for<'x>(
+    alloc: Global,
+    terms: &PageTerms<'x>,
+    bytes: &[u8],
+) -> Result<Route<'x>, AllocError>
     ensures { IfOk result (LetsIn (map (λ name. name.now) terms.now.names.now) bytes.now) }
 {
     let mut fields = [EMPTY_HEADER_SPAN; MOST_FIELDS];
@@ -73,13 +79,13 @@ fn refusal_of(error: Error) -> Refusal {
 }
 
 // Returns the answer to the request with this parsed head.
-fn route_of(
+fn route_of<'x>(
     alloc: Global,
-    terms: &PageTerms<'_>,
+    terms: &PageTerms<'x>,
     bytes: &[u8],
     request: &RequestSpans,
     fields: &[HeaderSpan],
-) -> Result<Route, AllocError>
+) -> Result<Route<'x>, AllocError>
     requires within { IsRequestWithin bytes.now fields.now request.now }
     requires read { IsRequestOf bytes.now fields.now request.now }
     ensures { IfOk result (LetsIn (map (λ name. name.now) terms.now.names.now) bytes.now) }
@@ -91,7 +97,7 @@ fn route_of(
         return Ok(Route::Refused(Refusal::Forbidden));
     }
     let keys = values_of(alloc, bytes, all, b"Sec-WebSocket-Key")?;
-    let route = route_allowed(terms.lasting, bytes, request, fields);
+    let route = route_allowed(terms, bytes, request, fields);
     match route {
         // A request with two keys is refused.
         Route::Session { .. } if keys.len() > 1 => Ok(Route::Refused(Refusal::Unreadable)),
@@ -134,34 +140,36 @@ impl Method {
 }
 
 // Returns the answer to an allowed request.
-fn route_allowed(
-    lasting: Lasting,
+fn route_allowed<'x>(
+    terms: &PageTerms<'x>,
     bytes: &[u8],
     request: &RequestSpans,
     fields: &[HeaderSpan],
-) -> Route
+) -> Route<'x>
     requires { IsRequestWithin bytes.now fields.now request.now }
 {
     let method = Method::of(request.method.of(bytes));
     let Ok(path) = str::from_utf8(without_query(request.path.of(bytes))) else {
         return Route::Refused(Refusal::NotFound);
     };
-    let file = file_at(path, lasting);
-    let is_found = path == "/session" || file.is_some();
+    let file = file_at(path, terms.lasting, terms.lessons);
+    let is_file = file.is_some();
+    let is_found = is_file || path == "/session";
     match method {
         // A star means all paths.
-        Method::Options if is_found || path == "*" => Route::Methods,
-        _ if !is_found => Route::Refused(Refusal::NotFound),
-        Method::Options | Method::Other => Route::Refused(Refusal::Method),
-        Method::Get | Method::Head => match file {
-            Some(file) => Route::Page(file),
-            None => session(bytes, request, fields),
-        },
+        Method::Options if is_found || path == "*" => return Route::Methods,
+        _ if !is_found => return Route::Refused(Refusal::NotFound),
+        Method::Options | Method::Other => return Route::Refused(Refusal::Method),
+        Method::Get | Method::Head => {}
     }
+    let Some(file) = file else {
+        return session(bytes, request, fields);
+    };
+    Route::Page(file)
 }
 
 // Returns the answer to a request for a WebSocket.
-fn session(bytes: &[u8], request: &RequestSpans, fields: &[HeaderSpan]) -> Route
+fn session<'x>(bytes: &[u8], request: &RequestSpans, fields: &[HeaderSpan]) -> Route<'x>
     requires { IsRequestWithin bytes.now fields.now request.now }
 {
     match check_request(bytes, request, fields) {

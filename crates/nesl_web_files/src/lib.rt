@@ -25,9 +25,9 @@ mod style_css;
 
 /// A file of the page: what it is, as `Content-Type` says it, and its text.
 #[derive(Clone, Copy)]
-pub struct File {
+pub struct File<'x> {
     pub kind: &'static str,
-    pub text: &'static str,
+    pub text: &'x str,
 }
 
 const HTML: &str = "text/html; charset=utf-8";
@@ -38,13 +38,16 @@ const JSON: &str = "application/json; charset=utf-8";
 
 const SCRIPT: &str = "text/javascript; charset=utf-8";
 
+// The path of the lessons.
+const LESSONS: &str = "/lessons.json";
+
 const SVG: &str = "image/svg+xml";
 
 // A file of the page and its path.
 #[derive(Clone, Copy)]
 struct Placed {
     path: &'static str,
-    file: File,
+    file: File<'static>,
 }
 
 /// How long the sessions of a service last.
@@ -60,19 +63,25 @@ impl Lasting {
     // What the page's other scripts import of it, and whether the service answers errors with hints.
     fn script(self) -> &'static str {
         match self {
-            Lasting::InMemory => "export const ARE_KEPT = false;\nexport const HINTS = false;\n",
-            Lasting::Kept => "export const ARE_KEPT = true;\nexport const HINTS = false;\n",
+            Lasting::InMemory => "export const ARE_KEPT = false;\nexport const HINTS = true;\n",
+            Lasting::Kept => "export const ARE_KEPT = true;\nexport const HINTS = true;\n",
         }
     }
 }
 
-/// The file at a path of a service whose sessions last as long as this; the page itself is at `/`.
-pub fn file_at(path: &str, lasting: Lasting) -> Option<File> {
+/// The file at a path of a service whose sessions last as long as this; the page itself is at `/`. The lessons are
+/// these, in the form of our own `lessons.json`, or our own if there are none.
+pub fn file_at<'x>(path: &str, lasting: Lasting, lessons: Option<&'x str>) -> Option<File<'x>> {
     if path == "/lasting.js" {
         return Some(File {
             kind: SCRIPT,
             text: lasting.script(),
         });
+    }
+    if let Some(text) = lessons {
+        if path == LESSONS {
+            return Some(File { kind: JSON, text });
+        }
     }
     for placed in &all_files() {
         if placed.path == path {
@@ -88,7 +97,7 @@ fn all_files() -> [Placed; 22] {
         at("/index.html", HTML, index_html::TEXT),
         at("/style.css", CSS, style_css::TEXT),
         at("/icon.svg", SVG, icon_svg::TEXT),
-        at("/lessons.json", JSON, lessons_json::TEXT),
+        at(LESSONS, JSON, lessons_json::TEXT),
         at("/main.js", SCRIPT, main_js::TEXT),
         at("/dom.js", SCRIPT, dom_js::TEXT),
         at("/kept.js", SCRIPT, kept_js::TEXT),
