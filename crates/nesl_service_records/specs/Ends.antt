@@ -13,13 +13,16 @@ use Rattle.nesl_service_records.specs.declared.numbers.Fault.TheVariants as faul
 abbrev pub ending_of : End → (is_turned_away : Bool) → Option Missed → Ending
 ending_of lines.Input true waited = ending.TurnedAway
 ending_of lines.Input false (Some missed.Seat) = ending.Replaced
+ending_of lines.Input false (Some missed.Leave) = ending.Dismissed
 ending_of lines.Input false _ = ending.Input
 ending_of lines.ReadFault away (Some missed.FirstLine) = ending.NoFirstLine
 ending_of lines.ReadFault away (Some missed.Line) = ending.Idle
 ending_of lines.ReadFault away (Some missed.Seat) = ending.Replaced
+ending_of lines.ReadFault away (Some missed.Leave) = ending.Dismissed
 ending_of lines.ReadFault away _ = ending.ReadFault
 ending_of lines.WriteFault away (Some missed.Taking) = ending.NotTaken
 ending_of lines.WriteFault away (Some missed.Seat) = ending.Replaced
+ending_of lines.WriteFault away (Some missed.Leave) = ending.Dismissed
 ending_of lines.WriteFault away _ = ending.WriteFault
 ending_of lines.NoMemory away waited = ending.NoMemory
 

@@ -227,6 +227,7 @@ impl<'x, R: Clock, J: Journal> AnswerObserver<'x, R, J> {
         }
         if self.is_counting {
             self.journal.answered(&Answered {
+                caller: self.caller,
                 fault: self.reading.fault(),
                 work: self.reading.work(),
                 took: self.took,

@@ -25,6 +25,8 @@ pub struct Counters {
     /// One counter for each threshold, in the order of `SLOW_MILLIS`.
     slow: Vec<AtomicU64>,
     work: AtomicU64,
+    /// The microseconds that measured lines took.
+    micros: AtomicU64,
     granted: AtomicU64,
     refused: AtomicU64,
     written: AtomicU64,
@@ -78,6 +80,50 @@ fn read_at(counters: &[AtomicU64], place: usize) -> u64 {
     }
 }
 
+fn micros_in(took: Duration) -> u64 {
+    u64::try_from(took.as_micros()).unwrap_or(u64::MAX)
+}
+
+// Reads counters, in order.
+fn read_each(alloc: Global, counters: &[AtomicU64]) -> Result<Vec<u64>, AllocError> {
+    let mut numbers = Vec::with_capacity(alloc, counters.len())?;
+    for counter in counters {
+        numbers.push(read(counter))?;
+    }
+    Ok(numbers)
+}
+
+/// The numbers of counters. They may be of different moments.
+#[derive(Drop)]
+pub struct Readings {
+    /// The connections that have begun.
+    pub begun: u64,
+    /// Those that were turned away, since their user is unknown or busy.
+    pub unknown: u64,
+    pub busy: u64,
+    /// Those that have ended, in the order of `Ending::ALL`.
+    pub ended: Vec<u64>,
+    /// The lines that were answered, and their faults in the order of `FAULTS`.
+    pub lines: u64,
+    pub faults: Vec<u64>,
+    /// The lines that took 1, 10 and 100 milliseconds or longer.
+    pub slow: Vec<u64>,
+    pub work: u64,
+    /// The microseconds that lines took.
+    pub micros: u64,
+    /// The requests for helpers that were granted and refused.
+    pub granted: u64,
+    pub refused: u64,
+    /// The lines of the log that were written and lost.
+    pub written: u64,
+    pub lost: u64,
+    /// The lines that were kept, with their bytes and microseconds, and the sessions that could not be taken up.
+    pub kept_lines: u64,
+    pub kept_bytes: u64,
+    pub kept_micros: u64,
+    pub not_taken_up: u64,
+}
+
 // Writes a text and then a number.
 fn write_number(text: &mut String, before: &str, number: u64) -> Result<(), AllocError> {
     write!(text, "{before}{number}")?;
@@ -117,6 +163,7 @@ impl Counters {
             faults: zeros(alloc, FAULTS.len())?,
             slow: zeros(alloc, SLOW_MILLIS.len())?,
             work: AtomicU64::new(0),
+            micros: AtomicU64::new(0),
             granted: AtomicU64::new(0),
             refused: AtomicU64::new(0),
             written: AtomicU64::new(0),
@@ -162,6 +209,7 @@ impl Counters {
         }
         if let Some(took) = answered.took {
             add_slow(self.slow.as_slice(), took);
+            add(&self.micros, micros_in(took));
         }
     }
 
@@ -198,16 +246,36 @@ impl Counters {
     pub fn kept(&self, kept: KeptLine) {
         add(&self.kept_lines, 1);
         add(&self.kept_bytes, kept.bytes);
-        add(
-            &self.kept_micros,
-            u64::try_from(kept.took.as_micros()).unwrap_or(u64::MAX),
-        );
+        add(&self.kept_micros, micros_in(kept.took));
         add_slow(self.slow_kept.as_slice(), kept.took);
     }
 
     /// Counts a kept session that could not be taken up.
     pub fn not_taken_up(&self) {
         add(&self.not_taken_up, 1);
+    }
+
+    /// Returns the numbers of all counters.
+    pub fn readings(&self, alloc: Global) -> Result<Readings, AllocError> {
+        Ok(Readings {
+            begun: read(&self.begun),
+            unknown: read(&self.unknown),
+            busy: read(&self.busy),
+            ended: read_each(alloc, self.ended.as_slice())?,
+            lines: read(&self.lines),
+            faults: read_each(alloc, self.faults.as_slice())?,
+            slow: read_each(alloc, self.slow.as_slice())?,
+            work: read(&self.work),
+            micros: read(&self.micros),
+            granted: read(&self.granted),
+            refused: read(&self.refused),
+            written: read(&self.written),
+            lost: read(&self.lost),
+            kept_lines: read(&self.kept_lines),
+            kept_bytes: read(&self.kept_bytes),
+            kept_micros: read(&self.kept_micros),
+            not_taken_up: read(&self.not_taken_up),
+        })
     }
 
     /// Returns all counters as one line of JSON, without a line end. `uptime` is rounded down to seconds.
@@ -243,6 +311,7 @@ impl Counters {
     fn write_lines(&self, text: &mut String) -> Result<(), AllocError> {
         write_number(text, "\"lines\":", read(&self.lines))?;
         write_number(text, ",\"work\":", read(&self.work))?;
+        write_number(text, ",\"us\":", read(&self.micros))?;
         text.push_str(",\"faults\":{")?;
         for (place, word) in FAULTS.iter().enumerate() {
             write_one(text, place, word, self.faults.as_slice())?;

@@ -3,9 +3,11 @@ ghost use Rattle.std.specs.Prelude.{◌≡◌};
 ghost use Rattle.nesl_service_records.specs.Ends.{ending_of};
 
 use crate::accepting::AcceptFault;
+use crate::helm::Helm;
 use crate::kept::{KeptLine, KeptSum};
 use nesl_line::exchange::End;
 use nesl_line::keeper::KeepFault;
+use nesl_session::limits::Remaining;
 use std::time::Duration;
 
 /// A connection: its number, counted from 1, the peer's port, and whether it is a WebSocket.
@@ -35,6 +37,8 @@ pub enum Missed {
     Taking,
     /// A newer connection of the user has the seat.
     Seat,
+    /// An operator ended the connection.
+    Leave,
 }
 
 /// Why a connection ended.
@@ -52,6 +56,8 @@ pub enum Ending {
     NotTaken,
     /// A newer connection of the user has the seat.
     Replaced,
+    /// An operator ended the connection.
+    Dismissed,
     ReadFault,
     WriteFault,
     NoMemory,
@@ -59,13 +65,14 @@ pub enum Ending {
 
 impl Ending {
     /// All endings, in the order in which they are counted.
-    pub const ALL: [Ending; 9] = [
+    pub const ALL: [Ending; 10] = [
         Ending::Input,
         Ending::TurnedAway,
         Ending::NoFirstLine,
         Ending::Idle,
         Ending::NotTaken,
         Ending::Replaced,
+        Ending::Dismissed,
         Ending::ReadFault,
         Ending::WriteFault,
         Ending::NoMemory,
@@ -79,17 +86,20 @@ impl Ending {
             End::Input if is_turned_away => Ending::TurnedAway,
             End::Input => match missed {
                 Some(Missed::Seat) => Ending::Replaced,
+                Some(Missed::Leave) => Ending::Dismissed,
                 Some(Missed::FirstLine | Missed::Line | Missed::Taking) | None => Ending::Input,
             },
             End::ReadFault => match missed {
                 Some(Missed::FirstLine) => Ending::NoFirstLine,
                 Some(Missed::Line) => Ending::Idle,
                 Some(Missed::Seat) => Ending::Replaced,
+                Some(Missed::Leave) => Ending::Dismissed,
                 Some(Missed::Taking) | None => Ending::ReadFault,
             },
             End::WriteFault => match missed {
                 Some(Missed::Taking) => Ending::NotTaken,
                 Some(Missed::Seat) => Ending::Replaced,
+                Some(Missed::Leave) => Ending::Dismissed,
                 Some(Missed::FirstLine | Missed::Line) | None => Ending::WriteFault,
             },
             End::NoMemory => Ending::NoMemory,
@@ -105,6 +115,7 @@ impl Ending {
             Ending::Idle => "idle",
             Ending::NotTaken => "answer not taken",
             Ending::Replaced => "newer connection",
+            Ending::Dismissed => "ended by operator",
             Ending::ReadFault => "read fault",
             Ending::WriteFault => "write fault",
             Ending::NoMemory => "no memory",
@@ -112,11 +123,12 @@ impl Ending {
     }
 }
 
-/// A line that was answered. `fault` is the place of its fault in `FAULTS`. `work` is the work that the answer states,
-/// or 0. `took` is the time from the line's arrival, or from the previous answer, to the answer's first byte, if it was
-/// measured.
+/// A line of a caller that was answered. `fault` is the place of its fault in `FAULTS`. `work` is the work that the
+/// answer states, or 0. `took` is the time from the line's arrival, or from the previous answer, to the answer's first
+/// byte, if it was measured.
 #[derive(Clone, Copy, PartialEq, Eq, Debug)]
 pub struct Answered {
+    pub caller: Caller,
     pub fault: Option<usize>,
     pub work: u64,
     pub took: Option<Duration>,
@@ -170,6 +182,21 @@ pub trait Journal {
     /// A line of a user could not be kept. It got no answer, and the service ends. Journals without a log may ignore
     /// it.
     fn keep_failed(&self, _user: Option<&[u8]>, _fault: KeepFault) {}
+
+    /// This is left to the session of a place of the roster, which was taken up or has got a line. Journals without an
+    /// operator may ignore it.
+    fn stands(&self, _place: usize, _left: Remaining) {}
+
+    /// Whether an operator may act on the service.
+    fn has_operator(&self) -> bool {
+        false
+    }
+
+    /// Lets an operator act on the service until it has ended. It is called once, beside the threads of the service.
+    fn attend<H: Helm>(&self, _helm: &H) {}
+
+    /// The last thread of the service has ended. Nothing is left for an operator to do.
+    fn over(&self) {}
 }
 
 /// A journal that ignores all events.

@@ -58,6 +58,8 @@ pub struct WatchedKeeper<'x, K, R, J> {
     watch: Watch<'x, R>,
     journal: &'x J,
     sum: KeptSum,
+    // The place of the session in the roster, if what is left to it is reported.
+    place: Option<usize>,
 }
 
 impl<'x, K, R: Clock, J: Journal> WatchedKeeper<'x, K, R, J> {
@@ -70,12 +72,30 @@ impl<'x, K, R: Clock, J: Journal> WatchedKeeper<'x, K, R, J> {
             watch: Watch::new(rt, is_keeping),
             journal,
             sum: KeptSum::nothing(),
+            place: None,
         }
     }
 
     /// What was kept so far.
     pub fn sum(&self) -> KeptSum {
         self.sum
+    }
+
+    // Reports what is left to the session of a place, if that is wanted.
+    fn stands(&self, session: &Session) {
+        if let Some(place) = self.place {
+            self.journal.stands(place, session.remaining());
+        }
+    }
+
+    // Notes the place of a session that was taken up, if what is left to it is wanted.
+    fn sit(&mut self, taken: &TakenUp)
+        ensures { self.new.keeper ≡ self.old.keeper }
+    {
+        if self.journal.has_operator() {
+            self.place = Some(taken.lease.place());
+            self.stands(taken.lease.session());
+        }
     }
 
     // Notes a line that was kept, if it changed the file.
@@ -108,7 +128,11 @@ impl<K: Keeper, R: Clock, J: Journal> Keeper for WatchedKeeper<'_, K, R, J> {
     ghost has_failed = { λ k. K.has_failed k.keeper };
 
     fn take_up(&mut self, alloc: Global, user: &[u8], lease: Lease) -> Result<TakenUp, NotTakenUp> {
-        self.keeper.take_up(alloc, user, lease)
+        let taken = self.keeper.take_up(alloc, user, lease);
+        if let Ok(taken) = &taken {
+            self.sit(taken);
+        }
+        taken
     }
 
     fn keep(
@@ -122,7 +146,12 @@ impl<K: Keeper, R: Clock, J: Journal> Keeper for WatchedKeeper<'_, K, R, J> {
         let kept = self.keeper.keep(alloc, line, was, session);
         if kept.is_ok() {
             self.note(line, was, Mark::of(session));
+            self.stands(session);
         }
         kept
+    }
+
+    fn renew(&mut self, alloc: Global, session: &Session) -> Result<(), KeepFault> {
+        self.keeper.renew(alloc, session)
     }
 }

@@ -5,6 +5,7 @@ pub mod accepting;
 pub mod answers;
 pub mod asking;
 pub mod counters;
+pub mod helm;
 pub mod journal;
 pub mod keeping;
 pub mod kept;

@@ -65,6 +65,13 @@ impl Numbers {
         Some(self.all.saturating_sub(self.left))
     }
 
+    /// Gives out no more numbers, though nothing has failed.
+    pub fn close(&mut self)
+        ensures { self.new ≡ record self.old { left = 0 } }
+    {
+        self.left = 0;
+    }
+
     /// Gives out no more numbers. Of several faults the gravest is reported: that of a line that could not be kept, or
     /// else one of a socket, or else one of memory.
     pub fn end(&mut self, fault: Fault)
