@@ -1,6 +1,7 @@
 //! Serves browsers: the files of the page, and users over WebSockets.
 
 use crate::accept::{Accepted, Acceptor};
+use crate::parts::PartWriter;
 use crate::seat::Seating;
 use crate::service::{ServedConnection, Service};
 use crate::streams::Listed;
@@ -15,7 +16,7 @@ use nesl_service_records::accepting::AcceptFault;
 use nesl_service_records::answers::{AnswerObserver, ObservedWriter};
 use nesl_service_records::journal::{Caller, Journal, Missed};
 use nesl_service_records::watch::{Timed, Watch};
-use nesl_web::asked::{Asked, query_of, values_in};
+use nesl_web::asked::{Asked, Subprotocol, query_of, values_in};
 use nesl_web::greet::{Greeted, greet};
 use nesl_web::lines::{MessageReader, MessageWriter};
 use nesl_web::route::PageTerms;
@@ -30,11 +31,12 @@ use std::time::{Clock, Duration, Instant};
 
 /// The page for browsers. `host` is a name by which it may be requested, besides those by which each machine calls
 /// itself. `threads` is how many threads serve seated users and files; the same number again serves connections without
-/// a seat.
+/// a seat. `lessons` are shown in place of ours; they are JSON, as `nesl_web_files` has it.
 #[derive(Clone, Copy)]
 pub struct Page<'x> {
     pub listener: &'x TcpListener,
     pub host: Option<&'x [u8]>,
+    pub lessons: Option<&'x str>,
     pub threads: usize,
 }
 
@@ -43,6 +45,7 @@ pub struct Page<'x> {
 pub(crate) struct PageAcceptor<'x> {
     acceptor: Acceptor<'x>,
     host: Option<&'x [u8]>,
+    lessons: Option<&'x str>,
     threads: usize,
     /// The number of threads that have begun. The first ones serve the connections for lines, and the others browsers.
     begun: AtomicU64,
@@ -59,6 +62,7 @@ impl<'x> PageAcceptor<'x> {
         Ok(PageAcceptor {
             acceptor: Acceptor::new(page.listener, None)?,
             host: page.host,
+            lessons: page.lessons,
             threads: page.threads,
             begun: AtomicU64::new(0),
             ended: AtomicU64::new(0),
@@ -134,7 +138,11 @@ impl<
                 break;
             }
             match page.acceptor.next(self.rt) {
-                Ok(accepted) => self.receive(page, &accepted),
+                Ok(accepted) => {
+                    self.watchroom.begin();
+                    self.receive(page, &accepted);
+                    self.watchroom.finish();
+                }
                 Err(error) => {
                     if !page.is_over(self.terms.threads) {
                         self.end_by_accept_fault(AcceptFault::new(&error, true));
@@ -153,6 +161,7 @@ impl<
         patience: Patience,
     ) -> io::Result<Greeted> {
         let lasting = self.lasting();
+        let lessons = page.lessons;
         match page.host {
             Some(name) => greet(
                 self.rt,
@@ -161,6 +170,7 @@ impl<
                 &PageTerms {
                     names: &[name],
                     lasting,
+                    lessons,
                 },
                 patience,
             ),
@@ -171,6 +181,7 @@ impl<
                 &PageTerms {
                     names: &[],
                     lasting,
+                    lessons,
                 },
                 patience,
             ),
@@ -236,15 +247,22 @@ impl<
         asked: Asked,
         patience: Patience,
     ) -> ServedConnection {
-        let Asked { head, first } = asked;
+        let Asked {
+            head,
+            first,
+            subprotocol,
+        } = asked;
         let Ok(values) = values_in(self.alloc, head.as_slice(), self.entrance.header) else {
             return ServedConnection::unread(End::NoMemory);
         };
+        let Ok(sign_in) = self.entrance.page.begin(self.rt) else {
+            return ServedConnection::unread(End::NoMemory);
+        };
         let doors = Doors {
-            user: Door::new(self.entrance.page, values.as_slice(), &[]),
+            user: Door::new(sign_in.lend(), values.as_slice(), &[]),
             address: door_of_address(head.as_slice()),
         };
-        self.serve_messages(visitor, doors, first, patience)
+        self.serve_messages(visitor, doors, first, subprotocol, patience)
     }
 
     // Serves the messages of a connection; `first` has the bytes that followed its head.
@@ -253,6 +271,7 @@ impl<
         visitor: Visitor<'_>,
         doors: Doors<'_>,
         first: Vec<u8>,
+        subprotocol: Subprotocol,
         patience: Patience,
     ) -> ServedConnection {
         let stream = visitor.stream;
@@ -268,14 +287,14 @@ impl<
         };
         let claimant = self.claimant(self.entrance.page, visitor.listed);
         let mut reader = Device::new(Seating::new(timed, doors.user, doors.address, claimant));
-        let mut writer = Device::new(ObservedWriter {
+        let mut writer = Device::new(PartWriter::new(ObservedWriter {
             writer,
             observer: AnswerObserver::new(&watch, self.journal, visitor.caller),
-        });
-        let lines = self.serve(&mut reader, &mut writer);
+        }));
+        let lines = self.serve(&mut reader, &mut writer, subprotocol, visitor.listed);
         let served = lines.served;
         let Timed { reader, .. } = reader.into_inner().into_inner();
-        let ObservedWriter { writer, .. } = writer.into_inner();
+        let ObservedWriter { writer, .. } = writer.into_inner().into_inner();
         let late = missed_by(&reader).or(untaken_by(&writer));
         let missed = self.streams.missed(visitor.listed).or(late);
         let limits = match served.receipt {

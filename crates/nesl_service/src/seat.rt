@@ -1,5 +1,5 @@
 //! Reads a connection whose user gets a seat.
-ghost use Rattle.std.specs.Prelude.{◌≡◌, ℕ, List, option_map};
+ghost use Rattle.std.specs.Prelude.{◌≡◌, ℕ, IfOk, List, option_map};
 ghost use Rattle.std.specs.Io.KnownBytes.{Keeps};
 ghost use Rattle.nesl_keys.specs.Hearing.{heard};
 ghost use Rattle.nesl_keys.specs.Reading.{heard_through, stream_behind};
@@ -7,19 +7,105 @@ ghost use Rattle.nesl_keys.specs.Reading.{heard_through, stream_behind};
 use crate::streams::{Claim, Listed, Streams};
 use nesl_keys::admitted::Door;
 use nesl_keys::doors::Doors;
+use nesl_keys::keys::Keys;
 use nesl_keys::sign_in::SignIn;
+use std::alloc::AllocError;
 use std::io;
 use std::io::{ErrorKind, Read};
-use std::sync::Wait;
+use std::sync::{Arc, Mutex, Wait};
 use std::time::Clock;
+
+/// The keys of a service's users. An operator may replace them while it runs.
+#[derive(Drop)]
+pub struct KeyRing {
+    keys: Mutex<Arc<Keys>>,
+}
+
+impl KeyRing {
+    pub fn new(keys: Arc<Keys>) -> KeyRing {
+        KeyRing {
+            keys: Mutex::new(keys),
+        }
+    }
+
+    /// Replaces the keys. Connections that have signed in by then go on.
+    pub fn replace<R: Wait>(&self, rt: &R, keys: Arc<Keys>) {
+        *self.keys.lock(rt) = keys;
+    }
+
+    fn keys<R: Wait>(&self, rt: &R) -> Result<Arc<Keys>, AllocError> {
+        let keys = self.keys.lock(rt);
+        match Arc::try_clone(&*keys) {
+            Ok(keys) => Ok(keys),
+            Err(_) => Err(AllocError),
+        }
+    }
+}
+
+/// The sign-in of a port, whose keys may be replaced while it runs.
+#[derive(Clone, Copy)]
+pub enum PortSignIn<'x> {
+    /// By their word.
+    Word,
+    /// By the keys that count when a connection begins.
+    Keys(&'x KeyRing),
+    /// By a header of their request.
+    Header,
+}
+
+impl PortSignIn<'_> {
+    /// The sign-in of a connection that begins now.
+    pub fn begin<R: Wait>(self, rt: &R) -> Result<BegunSignIn, AllocError>
+        ensures by_word { IfOk result (λ begun. begun ≡ BegunSignIn.Word → self.entry ≡ PortSignIn.Word) }
+        ensures by_header { IfOk result (λ begun. begun ≡ BegunSignIn.Header → self.entry ≡ PortSignIn.Header) }
+    {
+        match self {
+            PortSignIn::Word => Ok(BegunSignIn::Word),
+            PortSignIn::Keys(ring) => match ring.keys(rt) {
+                Ok(keys) => Ok(BegunSignIn::Keys(keys)),
+                Err(AllocError) => Err(AllocError),
+            },
+            PortSignIn::Header => Ok(BegunSignIn::Header),
+        }
+    }
+
+    /// Whether users are known by their keys.
+    pub(crate) fn is_by_keys(self) -> bool {
+        match self {
+            PortSignIn::Keys(_) => true,
+            PortSignIn::Word | PortSignIn::Header => false,
+        }
+    }
+}
+
+/// The sign-in of a connection, with the keys that counted when it began.
+#[derive(Drop)]
+pub enum BegunSignIn {
+    Word,
+    Keys(Arc<Keys>),
+    Header,
+}
+
+impl BegunSignIn {
+    pub fn lend(&self) -> SignIn<'_>
+        ensures by_word { result ≡ SignIn.Word → self.now ≡ BegunSignIn.Word }
+        ensures by_header { result ≡ SignIn.Header → self.now ≡ BegunSignIn.Header }
+    {
+        match self {
+            BegunSignIn::Word => SignIn::Word,
+            BegunSignIn::Keys(keys) => SignIn::Keys(keys),
+            BegunSignIn::Header => SignIn::Header,
+        }
+    }
+}
 
 /// How the users of a service are known.
 #[derive(Clone, Copy)]
 pub struct Entrance<'x> {
     /// Those of the port for lines.
-    pub lines: SignIn<'x>,
+    pub lines: PortSignIn<'x>,
     /// Those of the page.
-    pub page: SignIn<'x>,
+    pub page: PortSignIn<'x>,
     /// The name of the header that names the user of a browser, where they are known by a header.
     pub header: &'x [u8],
 }
@@ -28,29 +114,21 @@ impl<'x> Entrance<'x> {
     /// Whoever names a user is this user.
     pub fn by_word() -> Entrance<'x> {
         Entrance {
-            lines: SignIn::Word,
-            page: SignIn::Word,
+            lines: PortSignIn::Word,
+            page: PortSignIn::Word,
             header: b"",
         }
     }
 
     /// Whether a newer connection of a user can get the seat of an older one.
     pub(crate) fn has_keys(&self) -> bool {
-        is_by_keys(self.lines) || is_by_keys(self.page)
+        self.lines.is_by_keys() || self.page.is_by_keys()
     }
 }
 
 /// The door of a connection that has a first line alone.
 pub(crate) fn by_line(sign_in: SignIn<'_>) -> Door<'_> {
     Door::new(sign_in, &[], &[])
-}
-
-/// Whether users are known by their keys.
-pub(crate) fn is_by_keys(sign_in: SignIn<'_>) -> bool {
-    match sign_in {
-        SignIn::Keys(_) => true,
-        SignIn::Word | SignIn::Header | SignIn::Address => false,
-    }
 }
 
 /// A connection that can claim the seat of its user.

@@ -6,7 +6,10 @@ use crate::accept::{Accepted, Acceptor};
 use crate::browse::{Page, PageAcceptor};
 use crate::crowd::{Start, run_crowd};
 use crate::front::Front;
-use crate::seat::{Claimant, Entrance, Seating, by_line, is_by_keys};
+use crate::helm::{Watchroom, Wheel};
+use crate::hints::JsonHints;
+use crate::seat::{Claimant, Entrance, PortSignIn, Seating, by_line};
+use crate::seated::SeatedKeeper;
 use crate::streams::{Listed, Streams, WholeLines};
 use crate::wire::{Patience, Reader, Writer, drain_after_shutdown};
 use nesl_eval_helpers::sparing::Sparing;
@@ -18,15 +21,17 @@ use nesl_line::MOST_HANDED;
 use nesl_line::device::{Device, Sink, Source};
 use nesl_line::exchange::End;
 use nesl_line::keeper::{Archive, Unkept};
-use nesl_line::serve::{Room, Served, ServedAndKept, serve_and_keep};
+use nesl_line::serve::{Room, Served, ServedAndKept, serve_and_keep, serve_with_hints};
 use nesl_service_records::accepting::AcceptFault;
 use nesl_service_records::answers::{AnswerObserver, ObservedWriter};
 use nesl_service_records::asking::ReportingHelpers;
+use nesl_service_records::helm::Helm;
 use nesl_service_records::journal::{Caller, Ending, Journal, Missed, NoJournal, Visit};
 use nesl_service_records::kept::{KeptSum, WatchedKeeper};
 use nesl_service_records::numbers::{Fault, Numbers};
 use nesl_service_records::receipts::Receipts;
 use nesl_service_records::watch::{Timed, Watch};
+use nesl_web::asked::Subprotocol;
 use nesl_web_files::Lasting;
 use std::alloc::{AllocError, Global};
 use std::io::BufWriter;
@@ -141,8 +146,9 @@ pub(crate) struct Service<'x, R, L: Ledger, G, J, A> {
     common: &'x Common,
     start: &'x Start,
     pub(crate) streams: &'x Streams,
+    pub(crate) watchroom: &'x Watchroom,
     archive: &'x A,
-    pub(crate) entrance: Entrance<'x>,
+    pub(crate) entrance: &'x Entrance<'x>,
     pub(crate) terms: Terms,
     gate: &'x G,
     pub(crate) journal: &'x J,
@@ -156,19 +162,33 @@ impl<
     J: Journal + Sync,
     A: Archive + Sync,
 > Service<'x, R, L, G, J, A> {
-    /// Gives out no more numbers, and ends all waits for connections.
-    pub(crate) fn end(&self, fault: Fault) {
-        self.numbers.lock(self.rt).end(fault);
-        self.acceptor.close();
-        if let Some(page) = self.page {
-            page.close();
+    // What an operator acts on.
+    fn wheel(&self) -> Wheel<'x, R, J, A> {
+        Wheel {
+            rt: self.rt,
+            alloc: self.alloc,
+            acceptor: self.acceptor,
+            page: self.page,
+            table: self.table,
+            numbers: self.numbers,
+            receipts: self.receipts,
+            streams: self.streams,
+            watchroom: self.watchroom,
+            archive: self.archive,
+            journal: self.journal,
+            threads: self.thread_count() as u64,
         }
     }
 
+    /// Gives out no more numbers, and ends all waits for connections.
+    pub(crate) fn end(&self, fault: Fault) {
+        self.wheel().end(fault);
+    }
+
     /// Ends the service, since connections can't be accepted any more. The first such fault is reported; after another
-    /// fault nothing is done.
+    /// fault, or once an operator has closed the service, nothing is done.
     pub(crate) fn end_by_accept_fault(&self, fault: AcceptFault) {
-        if !self.has_ended() {
+        if !self.watchroom.is_closed() && !self.wheel().has_ended() {
             self.journal.accept_failed(fault);
             self.end(Fault::Socket);
         }
@@ -183,10 +203,10 @@ impl<
     }
 
     /// Lists the stream of a connection that begins, if it may have to be shut down: where sessions are kept, after a
-    /// line that could not be kept, and where users have keys, for a newer connection of its user. Returns how the
-    /// connection ends if it can't be listed.
+    /// line that could not be kept; where users have keys, for a newer connection of its user; and by an operator.
+    /// Returns how the connection ends if it can't be listed.
     pub(crate) fn list(&self, stream: &TcpStream) -> Result<Option<Listed>, End> {
-        if !self.archive.is_keeping() && !self.entrance.has_keys() {
+        if !self.archive.is_keeping() && !self.entrance.has_keys() && !self.journal.has_operator() {
             return Ok(None);
         }
         match self.streams.list(self.rt, stream) {
@@ -207,25 +227,16 @@ impl<
     fn report_unkept(&self, served: &Served, unkept: Unkept) {
         let user = self.name_of(unkept.place);
         match served.receipt {
-            Some(_) => {
-                self.journal.keep_failed(user, unkept.fault);
-                self.end(Fault::Keep);
-                self.streams.shut_all(self.rt);
-            }
+            Some(_) => self.wheel().end_unkept(user, unkept.fault),
             None => self.journal.not_taken_up(user, unkept.fault),
         }
-    }
-
-    // Whether a fault has ended the service.
-    fn has_ended(&self) -> bool {
-        self.numbers.lock(self.rt).fault.is_some()
     }
 
     /// Returns what claims the seat of a user of a port where they are known in this way, if seats are claimed. A
     /// connection with a key ends older ones.
     pub(crate) fn claimant(
         &self,
-        sign_in: SignIn<'_>,
+        sign_in: PortSignIn<'_>,
         listed: Option<Listed>,
     ) -> Option<Claimant<'x, R>> {
         if !self.entrance.has_keys() {
@@ -236,7 +247,7 @@ impl<
             streams: self.streams,
             listed: listed?,
             roster: self.table.roster(),
-            is_newest: is_by_keys(sign_in),
+            is_newest: sign_in.is_by_keys(),
         })
     }
 
@@ -248,6 +259,9 @@ impl<
         listed: Option<Listed>,
     ) -> ServedConnection {
         let patience = self.terms.patience;
+        let Ok(sign_in) = self.entrance.lines.begin(self.rt) else {
+            return ServedConnection::unread(End::NoMemory);
+        };
         let watch = Watch::new(self.rt, self.journal.is_counting());
         let observed = ObservedWriter {
             writer: Writer::new(self.rt, stream, patience),
@@ -264,12 +278,12 @@ impl<
             streams: self.streams,
             listed,
         };
-        let sign_in = self.entrance.lines;
-        let claimant = self.claimant(sign_in, listed);
-        let seating = Seating::new(lines, by_line(sign_in), by_line(SignIn::Word), claimant);
+        let claimant = self.claimant(self.entrance.lines, listed);
+        let first = by_line(sign_in.lend());
+        let seating = Seating::new(lines, first, by_line(SignIn::Word), claimant);
         let mut reader = Device::new(Front::new(seating));
         let mut writer = Device::new(writer);
-        let lines = self.serve(&mut reader, &mut writer);
+        let lines = self.serve(&mut reader, &mut writer, Subprotocol::Plain, listed);
         // Bytes that could not be written are dropped.
         let (observed, _) = writer.into_inner().into_parts();
         let WholeLines { reader, .. } = reader.into_inner().into_inner().into_inner();
@@ -281,8 +295,15 @@ impl<
         }
     }
 
-    /// Serves the lines of one connection by the session of the user that the first line names.
-    pub(crate) fn serve<S: Source, W: Sink>(&self, reader: &mut S, writer: &mut W) -> ServedLines {
+    /// Serves the lines of one connection by the session of the user that the first line names. If its stream is
+    /// listed, the seat is noted there.
+    pub(crate) fn serve<S: Source, W: Sink>(
+        &self,
+        reader: &mut S,
+        writer: &mut W,
+        subprotocol: Subprotocol,
+        listed: Option<Listed>,
+    ) -> ServedLines {
         let helpers = ReportingHelpers {
             helpers: self.pool.by(self.rt),
             journal: self.journal,
@@ -294,18 +315,25 @@ impl<
             helpers: &sparing,
             gate: self.gate,
         };
+        let hinter = JsonHints;
         let is_keeping = self.archive.is_keeping();
-        let mut keeper = WatchedKeeper::new(
-            self.archive.keeper(),
-            self.rt,
-            self.journal,
-            is_keeping,
-        );
+        let seated = SeatedKeeper {
+            keeper: self.archive.keeper(),
+            rt: self.rt,
+            streams: self.streams,
+            listed,
+        };
+        let mut keeper = WatchedKeeper::new(seated, self.rt, self.journal, is_keeping);
         let ServedAndKept {
             served,
             restored,
             fault,
-        } = serve_and_keep(self.rt, reader, writer, &mut keeper, &room);
+        } = match subprotocol {
+            Subprotocol::Plain => serve_and_keep(self.rt, reader, writer, &mut keeper, &room),
+            Subprotocol::Hints => {
+                serve_with_hints(self.rt, reader, writer, &mut keeper, &room, &hinter)
+            }
+        };
         if let Some(unkept) = fault {
             self.report_unkept(&served, unkept);
         }
@@ -358,17 +386,9 @@ impl<
             ..self.visit(attended)
         };
         self.journal.ended(caller, &visit);
-        self.take_in(attended.lines.restored);
-        self.take_in(attended.lines.served.receipt);
-    }
-
-    // Adds a receipt, if there is one.
-    fn take_in(&self, receipt: Option<Receipt>) {
-        if let Some(receipt) = receipt {
-            if !self.receipts.lock(self.rt).take_in(receipt) {
-                self.end(Fault::Memory);
-            }
-        }
+        let wheel = self.wheel();
+        wheel.take_in(attended.lines.restored);
+        wheel.take_in(attended.lines.served.receipt);
     }
 
     // Describes a connection that has ended, without its time.
@@ -409,6 +429,14 @@ impl<
         let room = connection_buffers(self.alloc);
         self.start.wait(self.rt, room.is_ok());
         drop(room);
+        self.serve_or_receive();
+        if self.watchroom.end_thread() >= self.thread_count() as u64 {
+            self.journal.over();
+        }
+    }
+
+    // Serves connections for lines or browsers until no more are accepted.
+    fn serve_or_receive(&self) {
         let lines = self.terms.threads;
         match self.page {
             Some(page) if page.claim_browser_thread(lines) => self.receive_all(page),
@@ -429,6 +457,7 @@ impl<
             let Some(accepted) = self.next_accepted() else {
                 break;
             };
+            self.watchroom.begin();
             self.serve_and_report(
                 Caller {
                     number,
@@ -437,31 +466,26 @@ impl<
                 },
                 &accepted.stream,
             );
+            self.watchroom.finish();
         }
-    }
-
-    // Lets the threads that were made begin. If any is missing or not ready, or the journal refuses, the service has
-    // ended by then.
-    fn open(&self, made: usize) {
-        let are_ready = self.start.wait_for_all(self.rt, made);
-        if made < self.threads() || !are_ready {
-            self.end(Fault::Memory);
-        } else if !self.journal.opened() {
-            self.end(Fault::Socket);
-        }
-        self.start.begin(made);
     }
 
     // The number of threads: those for lines and those for browsers.
-    fn threads(&self) -> usize {
+    fn thread_count(&self) -> usize {
         count_threads(self.terms, self.page)
     }
 
     // Runs all threads, and joins them.
     fn run_all(&self) {
+        self.run_beside(&self.wheel());
+    }
+
+    // Runs all threads, beside what an operator acts by, and joins them.
+    fn run_beside<H: Helm>(&self, helm: &H) {
         let work = |it: &Service<R, L, G, J, A>| it.work();
-        let lead = |it: &Service<R, L, G, J, A>, made: usize| it.open(made);
-        run_crowd(self.rt, self, self.threads(), &work, &lead);
+        let wheel = self.wheel();
+        let lead = |it: &Service<R, L, G, J, A>, made: usize| wheel.open(it.start, made, helm);
+        run_crowd(self.rt, self, self.thread_count(), &work, &lead);
     }
 }
 
@@ -564,6 +588,8 @@ fn serve_in<
     let Ok(streams) = Streams::new(alloc, count_threads(terms, page.as_ref())) else {
         return Err(ServeFault::Memory);
     };
+    let watchroom = Watchroom::new();
+    let entrance = plan.ways.entrance;
     let numbers = Mutex::new(Numbers::new(terms.connections.unwrap_or(u64::MAX)));
     let service = Service {
         rt,
@@ -577,8 +603,9 @@ fn serve_in<
         common: &common,
         start: &start,
         streams: &streams,
+        watchroom: &watchroom,
         archive: plan.archive,
-        entrance: plan.ways.entrance,
+        entrance: &entrance,
         terms,
         gate: plan.observers.gate,
         journal: plan.observers.journal,

@@ -7,7 +7,7 @@ use nesl_service_records::watch::Timed;
 use std::alloc::{AllocError, Global};
 use std::io::{ErrorKind, Read};
 use std::net::{Shutdown, TcpStream};
-use std::sync::atomic::{AtomicBool, Ordering};
+use std::sync::atomic::{AtomicBool, AtomicU64, Ordering};
 use std::sync::{Mutex, Wait};
 use std::time::{Clock, Duration};
 use std::{io, thread};
@@ -33,8 +33,8 @@ struct Open {
 pub(crate) struct Streams {
     /// A place is empty if its connection has ended.
     places: Mutex<Vec<Option<Open>>>,
-    /// Of each place, whether its connection was shut down for a newer one of its user. They are read without a lock.
-    replaced: Vec<AtomicBool>,
+    /// Of each place, why its connection was shut down: the code of an `Exit`. They are read without a lock.
+    exits: Vec<AtomicU64>,
     are_shut: AtomicBool,
 }
 
@@ -42,6 +42,35 @@ pub(crate) struct Streams {
 #[derive(Clone, Copy, PartialEq, Eq, Debug)]
 pub(crate) struct Listed {
     place: usize,
+}
+
+/// Why a connection was shut down alone.
+#[derive(Clone, Copy, PartialEq, Eq, Debug)]
+enum Exit {
+    /// It wasn't.
+    No,
+    /// For a newer one of its user.
+    Replaced,
+    /// An operator wanted it.
+    Dismissed,
+}
+
+impl Exit {
+    fn code(self) -> u64 {
+        match self {
+            Exit::No => 0,
+            Exit::Replaced => 1,
+            Exit::Dismissed => 2,
+        }
+    }
+
+    fn of(code: u64) -> Exit {
+        match code {
+            0 => Exit::No,
+            1 => Exit::Replaced,
+            _ => Exit::Dismissed,
+        }
+    }
 }
 
 /// Whether a connection may have the seat that it has claimed.
@@ -59,33 +88,34 @@ impl Streams {
     /// Places for this number of streams at a time.
     pub(crate) fn new(alloc: Global, count: usize) -> Result<Streams, AllocError> {
         let mut places = Vec::with_capacity(alloc, count)?;
-        let mut replaced = Vec::with_capacity(alloc, count)?;
+        let mut exits = Vec::with_capacity(alloc, count)?;
         for _ in 0..count {
             places.push(None)?;
-            replaced.push(AtomicBool::new(false))?;
+            exits.push(AtomicU64::new(Exit::No.code()))?;
         }
         Ok(Streams {
             places: Mutex::new(places),
-            replaced,
+            exits,
             are_shut: AtomicBool::new(false),
         })
     }
 
     /// Whether the stream of a connection was shut down, alone or with all others.
     pub(crate) fn is_shut(&self, listed: Option<Listed>) -> bool {
-        let is_replaced = match listed {
-            Some(listed) => self.is_replaced(listed.place),
+        let is_alone = match listed {
+            Some(listed) => self.exit_of(listed.place) != Exit::No,
             None => false,
         };
-        is_replaced || self.are_shut.load(Ordering::SeqCst)
+        is_alone || self.are_shut.load(Ordering::SeqCst)
     }
 
-    /// Returns what a connection has missed if it was shut down for a newer one: its seat.
+    /// Returns what a connection has missed if it was shut down: its seat, which a newer one has, or a leave of its
+    /// own.
     pub(crate) fn missed(&self, listed: Option<Listed>) -> Option<Missed> {
-        if self.is_replaced(listed?.place) {
-            Some(Missed::Seat)
-        } else {
-            None
+        match self.exit_of(listed?.place) {
+            Exit::No => None,
+            Exit::Replaced => Some(Missed::Seat),
+            Exit::Dismissed => Some(Missed::Leave),
         }
     }
 
@@ -107,7 +137,7 @@ impl Streams {
             stream: second,
             seat: None,
         });
-        self.set_replaced(place, false);
+        self.set_exit(place, Exit::No);
         Ok(Listed { place })
     }
 
@@ -157,7 +187,7 @@ impl Streams {
             match open {
                 Some(open) if place == listed.place => open.seat = Some(seat),
                 Some(open) if open.seat == Some(seat) => {
-                    self.set_replaced(place, true);
+                    self.set_exit(place, Exit::Replaced);
                     let _ = open.stream.shutdown(Shutdown::Both).is_ok();
                 }
                 Some(_) | None => {}
@@ -168,7 +198,7 @@ impl Streams {
 
     // Returns what has become of a claim.
     fn claim_of(&self, places: &[Option<Open>], listed: Listed, seat: usize) -> Claim {
-        if self.is_replaced(listed.place) {
+        if self.exit_of(listed.place) != Exit::No {
             Claim::Lost
         } else if self.has_older(places, seat) {
             Claim::Waiting
@@ -180,23 +210,56 @@ impl Streams {
     // Whether a connection that was shut down for a newer one of this user has not ended yet.
     fn has_older(&self, places: &[Option<Open>], seat: usize) -> bool {
         places.iter().enumerate().any(|(place, open)| match open {
-            Some(open) => open.seat == Some(seat) && self.is_replaced(place),
+            Some(open) => open.seat == Some(seat) && self.exit_of(place) == Exit::Replaced,
             None => false,
         })
     }
 
-    // Whether the connection at a place was shut down for a newer one.
-    fn is_replaced(&self, place: usize) -> bool {
-        match self.replaced.get(place) {
-            Some(replaced) => replaced.load(Ordering::SeqCst),
-            None => false,
+    /// Shuts down the connections that have claimed the seat of a user, or may have it, and returns how many there are.
+    pub(crate) fn dismiss<R: Wait>(&self, rt: &R, seat: usize) -> usize {
+        let places = self.places.lock(rt);
+        let mut count = 0usize;
+        for (place, open) in places.iter().enumerate() {
+            if let Some(open) = open {
+                if open.seat == Some(seat) {
+                    self.dismiss_one(place, open);
+                    count = count.saturating_add(1);
+                }
+            }
+        }
+        count
+    }
+
+    /// Shuts down all connections that are listed now.
+    pub(crate) fn dismiss_all<R: Wait>(&self, rt: &R) {
+        let places = self.places.lock(rt);
+        for (place, open) in places.iter().enumerate() {
+            if let Some(open) = open {
+                self.dismiss_one(place, open);
+            }
         }
     }
 
-    // Notes whether the connection at a place was shut down for a newer one.
-    fn set_replaced(&self, place: usize, is_replaced: bool) {
-        if let Some(replaced) = self.replaced.get(place) {
-            replaced.store(is_replaced, Ordering::SeqCst);
+    // Shuts down a connection because an operator wants it, unless it was shut down before.
+    fn dismiss_one(&self, place: usize, open: &Open) {
+        if self.exit_of(place) == Exit::No {
+            self.set_exit(place, Exit::Dismissed);
+            let _ = open.stream.shutdown(Shutdown::Both).is_ok();
+        }
+    }
+
+    // Why the connection at a place was shut down alone.
+    fn exit_of(&self, place: usize) -> Exit {
+        match self.exits.get(place) {
+            Some(exit) => Exit::of(exit.load(Ordering::SeqCst)),
+            None => Exit::No,
+        }
+    }
+
+    // Notes why the connection at a place was shut down alone.
+    fn set_exit(&self, place: usize, exit: Exit) {
+        if let Some(noted) = self.exits.get(place) {
+            noted.store(exit.code(), Ordering::SeqCst);
         }
     }
 }
