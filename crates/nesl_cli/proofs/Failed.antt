@@ -11,7 +11,8 @@ use Rattle.nesl_line.specs.declared.exchange.End.TheVariants.{Input, ReadFault, 
 use Rattle.nesl_line.proofs.Bytes.{consumes_none, appends_none}
 use Rattle.nesl_cli.specs.declared.failure.Failure.{Failure}
 use Rattle.nesl_cli.specs.Failures.{failure_of}
-use Rattle.nesl_cli.specs.Program.{limits, Batched, Served, Untouched, IsBlamed, BatchFails}
+use Rattle.nesl_session_meaning.specs.declared.limits.Limits.{Limits}
+use Rattle.nesl_cli.specs.Program.{Batched, Served, Untouched, IsBlamed, BatchFails}
 
 pub untouched : (left held : Option (List ℕ)) → Untouched left left held held
 untouched left held = (consumes_none left, appends_none held)
@@ -41,17 +42,17 @@ nothing_done left left' held held' read written c a r w =
     (subst P r c, subst Q w a)
 
 -- a batch ran to its end
-pub served : (is_hinted : Bool) (end : End) (count : ℕ) (users : List (List ℕ)) (left left' held held' : Option (List ℕ)) (house house' : List Account) → IsRoster users → house ≡ new_house limits users → Batched is_hinted end count left left' held held' house house'
-    → None ≡ failure_of end → Served is_hinted Input users left left' held held'
-served is_hinted Input count users left left' held held' house house' r o b e = let P : List Account → Type 0 = λ x. Batched is_hinted Input count left left' held held' x house' in (r, (count, (house', subst P o b)))
-served is_hinted ReadFault count users left left' held held' house house' r o b e = absurd (cc)
-served is_hinted WriteFault count users left left' held held' house house' r o b e = absurd (cc)
-served is_hinted NoMemory count users left left' held held' house house' r o b e = absurd (cc)
+pub served : (is_hinted : Bool) (end : End) (count : ℕ) (bounds : Limits) (users : List (List ℕ)) (left left' held held' : Option (List ℕ)) (house house' : List Account) → IsRoster users → house ≡ new_house bounds users → Batched is_hinted end count left left' held held' house house'
+    → None ≡ failure_of end → Served is_hinted Input bounds users left left' held held'
+served is_hinted Input count bounds users left left' held held' house house' r o b e = let P : List Account → Type 0 = λ x. Batched is_hinted Input count left left' held held' x house' in (r, (count, (house', subst P o b)))
+served is_hinted ReadFault count bounds users left left' held held' house house' r o b e = absurd (cc)
+served is_hinted WriteFault count bounds users left left' held held' house house' r o b e = absurd (cc)
+served is_hinted NoMemory count bounds users left left' held held' house house' r o b e = absurd (cc)
 
-failed_as : (is_hinted : Bool) (failure other : Failure) (users : List (List ℕ)) (left left' held held' : Option (List ℕ)) → Some failure ≡ Some other → BatchFails other is_hinted users left left' held held' → BatchFails failure is_hinted users left left' held held'
-failed_as is_hinted failure other users left left' held held' e f =
+failed_as : (is_hinted : Bool) (failure other : Failure) (bounds : Limits) (users : List (List ℕ)) (left left' held held' : Option (List ℕ)) → Some failure ≡ Some other → BatchFails other is_hinted bounds users left left' held held' → BatchFails failure is_hinted bounds users left left' held held'
+failed_as is_hinted failure other bounds users left left' held held' e f =
     let same : failure ≡ other = cc in
-    let P : Failure → Type 0 = λ x. BatchFails x is_hinted users left left' held held' in
+    let P : Failure → Type 0 = λ x. BatchFails x is_hinted bounds users left left' held held' in
     subst P (sym same) f
 
 -- a batch for which there was no memory
@@ -60,11 +61,11 @@ unread false count left left' held held' house house' b = nothing_done left left
 unread true count left left' held held' house house' b = nothing_done left left' held held' b.passed.read b.passed.written b.consumed b.appended b.ended.0 b.ended.2
 
 -- a batch failed
-pub failed : (is_hinted : Bool) (end : End) (failure : Failure) (count : ℕ) (users : List (List ℕ)) (left left' held held' : Option (List ℕ)) (house house' : List Account) → IsRoster users → house ≡ new_house limits users → Batched is_hinted end count left left' held held' house house'
-    → Some failure ≡ failure_of end → BatchFails failure is_hinted users left left' held held'
-failed is_hinted Input failure count users left left' held held' house house' r o b e = absurd (cc)
-failed is_hinted ReadFault failure count users left left' held held' house house' r o b e =
-    let P : List Account → Type 0 = λ x. Batched is_hinted ReadFault count left left' held held' x house' in failed_as is_hinted failure _ users left left' held held' e (r, (count, (house', subst P o b)))
-failed is_hinted WriteFault failure count users left left' held held' house house' r o b e =
-    let P : List Account → Type 0 = λ x. Batched is_hinted WriteFault count left left' held held' x house' in failed_as is_hinted failure _ users left left' held held' e (r, (count, (house', subst P o b)))
-failed is_hinted NoMemory failure count users left left' held held' house house' r o b e = failed_as is_hinted failure _ users left left' held held' e (unread is_hinted count left left' held held' house house' b)
+pub failed : (is_hinted : Bool) (end : End) (failure : Failure) (count : ℕ) (bounds : Limits) (users : List (List ℕ)) (left left' held held' : Option (List ℕ)) (house house' : List Account) → IsRoster users → house ≡ new_house bounds users → Batched is_hinted end count left left' held held' house house'
+    → Some failure ≡ failure_of end → BatchFails failure is_hinted bounds users left left' held held'
+failed is_hinted Input failure count bounds users left left' held held' house house' r o b e = absurd (cc)
+failed is_hinted ReadFault failure count bounds users left left' held held' house house' r o b e =
+    let P : List Account → Type 0 = λ x. Batched is_hinted ReadFault count left left' held held' x house' in failed_as is_hinted failure _ bounds users left left' held held' e (r, (count, (house', subst P o b)))
+failed is_hinted WriteFault failure count bounds users left left' held held' house house' r o b e =
+    let P : List Account → Type 0 = λ x. Batched is_hinted WriteFault count left left' held held' x house' in failed_as is_hinted failure _ bounds users left left' held held' e (r, (count, (house', subst P o b)))
+failed is_hinted NoMemory failure count bounds users left left' held held' house house' r o b e = failed_as is_hinted failure _ bounds users left left' held held' e (unread is_hinted count left left' held held' house house' b)

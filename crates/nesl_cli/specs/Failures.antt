@@ -12,7 +12,8 @@ use Rattle.nesl_cli.specs.declared.failure.Failure.TheVariants.{Read, Write, Mem
 use Rattle.nesl_cli.specs.declared.failure.Failure.TheVariants.{Count, Name, Twice, Encoding}
 use Rattle.nesl_cli.specs.declared.failure.Failure.TheVariants.{Costs, Value, Taken, Stats, Folder, Kept, Prompt}
 use Rattle.nesl_cli.specs.declared.failure.Failure.TheVariants.{Keys, NoKeys, KeysMemory, NoPage, KeptLimits}
-use Rattle.nesl_cli.specs.declared.failure.Failure.TheVariants.{Users, NoUsers, Open, Address}
+use Rattle.nesl_cli.specs.declared.failure.Failure.TheVariants.{Users, Lessons, NoUsers, Open, Address}
+use Rattle.nesl_cli.specs.declared.failure.Failure.TheVariants.{Socket, Request, RequestMemory}
 use Rattle.nesl_kept.specs.declared.failure.LookFailure.{LookFailure}
 use Rattle.nesl_kept.specs.declared.failure.LookFailure.TheVariants as look_failure
 use Rattle.nesl_cli.specs.declared.prompt.PromptFault.TheVariants as prompt_fault
@@ -45,9 +46,13 @@ status_of KeysMemory = 1
 status_of NoPage = 2
 status_of KeptLimits = 2
 status_of (Users file reason) = 1
+status_of (Lessons folder reason) = 1
 status_of NoUsers = 2
 status_of Open = 2
 status_of (Address text) = 2
+status_of (Socket path reason) = 1
+status_of (Request path reason) = 1
+status_of RequestMemory = 1
 status_of (Prompt fault) = 1
 
 -- 0 where an offered service ended well
@@ -77,13 +82,15 @@ prompt_failure_of WriteFault = Some prompt_fault.Write
 prompt_failure_of NoMemory = Some prompt_fault.Memory
 
 -- the failure where memory ran out before a run, by the word after the program's name: the service's for `serve`, the
--- prompt's for `repl`, that of a look at kept sessions for `keep`, and that of keys for `keys`
+-- prompt's for `repl`, that of a look at kept sessions for `keep`, that of keys for `keys`, and that of a
+-- request for `control`
 abbrev pub memory_failure_by : List ℕ → Failure
 memory_failure_by word =
     if bytes_eq word (codes "serve") then Serve serve_fault.Memory
     else if bytes_eq word (codes "repl") then Prompt prompt_fault.Memory
     else if bytes_eq word (codes "keep") then Kept look_failure.Memory
     else if bytes_eq word (codes "keys") then KeysMemory
+    else if bytes_eq word (codes "control") then RequestMemory
     else Memory
 
 abbrev pub memory_failure_at : Option (List ℕ) → Failure

@@ -1,11 +1,11 @@
 -- The service that is offered, and the keys.
 use Rattle.std.specs.Option.{is_none, is_some}
 use Rattle.std.specs.Prelude.{◌≡◌, ℕ, ◌+◌, Bool, ◌||◌, ◌*◌, ◌^◌, ◌∷◌, [], List, Option, Some, None, map, nat_lt}
-use Rattle.std.specs.Prelude.{unwrap_or, if◌then◌else◌}
+use Rattle.std.specs.Prelude.{option_map, unwrap_or, if◌then◌else◌}
 use Rattle.std.specs.declared.net.IpAddr.{IpAddr}
 use Rattle.std.specs.Net.Addr.{IsV4And, ipv4_octets}
 use Rattle.std.specs.Net.Grammar.{IsIpText}
-use Rattle.nesl_words.specs.Words.{Service, Task, a_grading, a_service, some_keys}
+use Rattle.nesl_words.specs.Words.{Service, Task, a_grading, a_request, a_service, some_keys}
 use Rattle.nesl_words.specs.Wanted.{grading_wanted, keys_wanted, service_wanted}
 use Rattle.nesl_cli.specs.declared.run.Offer.{Offer}
 use Rattle.nesl_cli.specs.declared.run.Offered.{Offered}
@@ -22,11 +22,13 @@ users_offered offer = map (λ user. user.now) offer.users.items
 abbrev pub task_handed : Offered → Task
 task_handed (offered.Service offer) = a_service (service_offered offer)
 task_handed (offered.Keys offer) = some_keys (keys_wanted offer.keys)
+task_handed (offered.Request offer) = a_request (option_map (λ path. path.now) offer.path)
 task_handed (offered.Grade offer) = a_grading (grading_wanted offer.grading)
 
 abbrev pub users_handed : Offered → List (List ℕ)
 users_handed (offered.Service offer) = users_offered offer
 users_handed (offered.Keys offer) = map (λ user. user.now) offer.users.items
+users_handed (offered.Request offer) = map (λ word. word.now) offer.words.items
 users_handed (offered.Grade offer) = map (λ submission. submission.now) offer.submissions.items
 
 -- the port for lines is listened to: no header names the users of the page, or they have keys

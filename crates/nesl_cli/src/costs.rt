@@ -1,7 +1,9 @@
 //! The costs of a batch's last line, for several values of `n`.
 ghost use Rattle.std.specs.Prelude.{◌≡◌, ℕ, Bool, List, Option, IfErr, IfOk, false, map};
+ghost use Rattle.nesl_session_meaning.specs.declared.limits.Limits.{Limits};
 ghost use Rattle.nesl_line.specs.Batch.{AnswersAll};
-ghost use Rattle.nesl_cli.specs.Program.{BatchFails, IsAnsweredAnew};
+ghost use Rattle.nesl_words.specs.Wanted.{limits_wanted};
+ghost use Rattle.nesl_cli.specs.Program.{limits_by, BatchFails, IsAnsweredAnew};
 
 use crate::failure::Failure;
 use crate::run::open_house;
@@ -13,6 +15,8 @@ use nesl_line::batch::answer_text;
 use nesl_line::device::{Sink, Source};
 use nesl_line::exchange::MOST_READS;
 use nesl_line::tell;
+use nesl_words::limit_words::LimitWords;
+use nesl_words::words::CostsWords;
 use std::alloc::{AllocError, Global};
 use thiserror::Error;
 
@@ -42,10 +46,12 @@ const MOST_DIGITS: usize = 18;
 /// The most bytes of one read.
 const CHUNK: usize = 4096;
 
-// The batch that is run for each value. `heap` is the size in bytes of the heap for evaluation, if there is to be one.
+// The batch that is run for each value. `limits` are those of each session, and `heap` is the size in bytes of the heap
+// for evaluation, if there is to be one.
 #[derive(Clone, Copy)]
 struct Batch<'a> {
     users: &'a [&'a str],
+    limits: LimitWords,
     heap: Option<usize>,
     lines: &'a [u8],
 }
@@ -56,36 +62,40 @@ struct Batch<'a> {
 pub(crate) fn write_costs<'a, S: Source, W: Sink>(
     alloc: Global,
     users: &[&'a str],
-    values: &'a str,
-    heap: Option<usize>,
+    costs: CostsWords<'a>,
     reader: &mut S,
     writer: &mut W,
 ) -> Result<(), Failure<'a>>
-    ensures failed { IfErr result (λ failure. BatchFails failure false (map (λ user. user.now) users.now)
+    ensures failed { IfErr result (λ failure. BatchFails failure false (limits_by (limits_wanted costs.entry.limits))
+        (map (λ user. user.now) users.now)
         (S.left reader.old) (S.left reader.new) (W.held writer.old) (W.held writer.new)) }
 {
-    let values = split_values(alloc, values)?;
-    let _ = open_house(alloc, users)?;
-    match write_table(alloc, users, heap, values.as_slice(), reader, writer) {
+    let values = split_values(alloc, costs.values)?;
+    let _ = open_house(alloc, users, costs.limits)?;
+    let batch = Batch {
+        users,
+        limits: costs.limits,
+        heap: costs.heap,
+        lines: &[],
+    };
+    match write_table(alloc, batch, values.as_slice(), reader, writer) {
         Ok(()) => Ok(()),
         Err(fault) => Err(Failure::Costs(fault)),
     }
 }
 
-// Reads the lines, and writes the header and a row for each value.
+// Reads the lines, and writes the header and a row for each value. The batch has no lines yet.
 fn write_table<S: Source, W: Sink>(
     alloc: Global,
-    users: &[&str],
-    heap: Option<usize>,
+    batch: Batch<'_>,
     values: &[&str],
     reader: &mut S,
     writer: &mut W,
 ) -> Result<(), CostsFault> {
     let lines = read_lines(alloc, reader)?;
     let batch = Batch {
-        users,
-        heap,
         lines: lines.as_slice(),
+        ..batch
     };
     write_row(writer, HEAD)?;
     for value in values {
@@ -97,8 +107,8 @@ fn write_table<S: Source, W: Sink>(
 
 // Splits a text at its commas into values, each of 1 to 18 digits.
 fn split_values<'a>(alloc: Global, text: &'a str) -> Result<Vec<&'a str>, Failure<'a>>
-    ensures { IfErr result (λ failure. (is_hinted : Bool) (users : List (List ℕ)) (left held : Option (List ℕ))
-        → BatchFails failure is_hinted users left left held held) }
+    ensures { IfErr result (λ failure. (is_hinted : Bool) (limits : Limits) (users : List (List ℕ))
+        (left held : Option (List ℕ)) → BatchFails failure is_hinted limits users left left held held) }
 {
     let mut values = Vec::new(alloc);
     for value in text.split(',') {
@@ -174,9 +184,10 @@ fn make_script(alloc: Global, batch: &Batch<'_>, value: &str) -> Result<Vec<u8>,
 // Runs these lines in a new house, and returns the replies.
 fn run_script(alloc: Global, batch: &Batch<'_>, script: &[u8]) -> Result<Vec<u8>, CostsFault>
     ensures { IfOk result (λ replies.
-        IsAnsweredAnew (map (λ user. user.now) batch.now.users.now) script.now replies.items) }
+        IsAnsweredAnew (limits_by (limits_wanted batch.now.limits)) (map (λ user. user.now) batch.now.users.now)
+        script.now replies.items) }
 {
-    let Ok(mut house) = open_house(alloc, batch.users) else {
+    let Ok(mut house) = open_house(alloc, batch.users, batch.limits) else {
         return Err(CostsFault::Memory);
     };
     Ok(answer_script(alloc, &mut house, batch.heap, script)?)

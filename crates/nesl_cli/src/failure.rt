@@ -1,5 +1,6 @@
 //! How a run of the program fails.
 ghost use Rattle.std.specs.Prelude.{◌≡◌, ℕ, Bool, List, Option, IfSome, map, slice_get};
+ghost use Rattle.nesl_session_meaning.specs.declared.limits.Limits.{Limits};
 ghost use Rattle.nesl_house.specs.Roster.{IsRefused};
 ghost use Rattle.clap.specs.Values.{kind_of};
 ghost use Rattle.nesl_cli.specs.Failures.{failure_of, memory_failure_of, status_after, status_of, words_status_of};
@@ -10,11 +11,13 @@ use crate::prompt::PromptFault;
 use clap::error::ErrorKind;
 use nesl_house::roster::NewFault;
 use nesl_kept::failure::LookFailure;
-use nesl_keys::keys::KeysFault;
+use nesl_kept::folder::PlaceFault;
 use nesl_line::exchange::End;
 use nesl_prompt::shelf::ShelfFault;
 use nesl_service::service::ServeFault;
 use nesl_service_records::system::SystemError;
+use nesl_system::refusal::{KeysRefusal, SocketRefusal};
+use std::alloc::AllocError;
 use thiserror::Error;
 
 /// Why a run failed. Its text goes to standard error.
@@ -69,6 +72,9 @@ pub enum Failure<'a> {
     /// The users can't be read from this file, for this reason.
     #[error("serve: can't read users in {0}\n{1}")]
     Users(&'a str, UsersRefusal),
+    /// The lessons of this folder can't be shown, for this reason.
+    #[error("serve: can't show the lessons in {0}\n{1}")]
+    Lessons(&'a str, LessonsRefusal),
     /// A service is to be offered to nobody.
     #[error("serve: no users: name them, or list them in the file of --users")]
     NoUsers,
@@ -78,6 +84,15 @@ pub enum Failure<'a> {
     /// This text is no IP address.
     #[error("serve: bad address {0}")]
     Address(&'a str),
+    /// An operator can't be listened to by this path, or a monitor by this port, for this reason.
+    #[error("serve: can't listen at {0}\n{1}")]
+    Socket(&'a str, SocketRefusal),
+    /// A request could not be answered by the service of this path, for this reason.
+    #[error("control: {0}: {1}")]
+    Request(&'a str, SocketRefusal),
+    /// Memory ran out before a request was made.
+    #[error("control: no memory")]
+    RequestMemory,
     /// Sessions are to be kept, and to have other limits than those with which they come back.
     #[error("serve: sessions that --keep keeps have the usual limits")]
     KeptLimits,
@@ -109,25 +124,35 @@ pub enum UsersRefusal {
     File(ShelfFault),
 }
 
-/// Why keys can't be written into a file.
+/// Why the lessons of a folder can't be shown.
 #[derive(Clone, Copy, PartialEq, Eq, Debug, Error)]
-pub enum KeysRefusal {
-    #[error("there is a file of this name")]
-    Taken,
-    /// It was read, and is no file of keys.
-    #[error("{0}")]
-    Content(KeysFault),
-    /// A user whose key is to be renewed isn't in it.
-    #[error("it doesn't list a user")]
-    Unlisted,
-    #[error("{0}")]
-    File(ShelfFault),
-    #[error("the system gives no random bytes")]
-    Random,
-    #[error("standard output: write fault")]
-    Output,
+pub enum LessonsRefusal {
     #[error("no memory")]
     Memory,
+    #[error("it isn't UTF-8")]
+    Encoding,
+    #[error("no name in it ends in .md")]
+    Empty,
+    #[error("{0}")]
+    Place(PlaceFault),
+    /// This number of replies is another than the lessons show.
+    #[error("replies that differ: {0}")]
+    Replies(u64),
+}
+
+impl From<AllocError> for LessonsRefusal {
+    fn from(_error: AllocError) -> LessonsRefusal {
+        LessonsRefusal::Memory
+    }
+}
+
+impl From<PlaceFault> for LessonsRefusal {
+    fn from(fault: PlaceFault) -> LessonsRefusal {
+        match fault {
+            PlaceFault::Memory => LessonsRefusal::Memory,
+            fault => LessonsRefusal::Place(fault),
+        }
+    }
 }
 
 /// Why a command line led to no complete run.
@@ -145,8 +170,8 @@ impl<'a> Failure<'a> {
     /// The failure for a roster that is refused; nothing was read or written by then.
     pub fn of_roster(fault: NewFault, users: &[&'a str]) -> Failure<'a>
         requires { IsRefused (map (λ user. user.now) users.now) fault }
-        ensures { (is_hinted : Bool) (left held : Option (List ℕ))
-            → BatchFails result is_hinted (map (λ user. user.now) users.now) left left held held }
+        ensures { (is_hinted : Bool) (limits : Limits) (left held : Option (List ℕ))
+            → BatchFails result is_hinted limits (map (λ user. user.now) users.now) left left held held }
     {
         match fault {
             NewFault::Count => Failure::Count,
@@ -166,6 +191,7 @@ impl<'a> Failure<'a> {
             Some(word) if *word == "repl" => Failure::Prompt(PromptFault::Memory),
             Some(word) if *word == "keep" => Failure::Kept(LookFailure::Memory),
             Some(word) if *word == "keys" => Failure::KeysMemory,
+            Some(word) if *word == "control" => Failure::RequestMemory,
             _ => Failure::Memory,
         }
     }
@@ -192,8 +218,10 @@ impl<'a> Failure<'a> {
             Failure::Costs(_) | Failure::Taken(_) | Failure::Prompt(_) => 1,
             Failure::Stats(_, _) | Failure::Folder(_, _) | Failure::Keys(_, _) => 1,
             Failure::NoKeys(_, _) | Failure::Users(_, _) | Failure::KeysMemory => 1,
+            Failure::Lessons(_, _) => 1,
             Failure::Value(_) | Failure::NoPage | Failure::KeptLimits => 2,
             Failure::NoUsers | Failure::Open | Failure::Address(_) => 2,
+            Failure::Socket(_, _) | Failure::Request(_, _) | Failure::RequestMemory => 1,
             Failure::Kept(LookFailure::Name(_)) => 2,
             Failure::Kept(_) => 1,
         }

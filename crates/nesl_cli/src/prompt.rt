@@ -3,17 +3,19 @@ ghost use Rattle.std.specs.Prelude.{◌≡◌, IfErr, OnOk};
 ghost use Rattle.nesl_line.specs.declared.exchange.End.TheVariants as end;
 ghost use Rattle.nesl_prompt.specs.Points.{is_plain};
 ghost use Rattle.nesl_cli.specs.Failures.{prompt_failure_of};
-ghost use Rattle.nesl_cli.specs.Program.{PromptFails, Prompted};
+ghost use Rattle.nesl_words.specs.Wanted.{limits_wanted};
+ghost use Rattle.nesl_cli.specs.Program.{limits_by, PromptFails, Prompted};
 ghost use Rattle.nesl_cli.specs.Prompted.{access_for, style_for};
 
 use crate::failure::Failure;
-use crate::run::LIMITS;
+use crate::terms::limits_by;
 use nesl_line::device::{Sink, Source};
 use nesl_line::exchange::End;
 use nesl_prompt::converse::converse;
 use nesl_prompt::shelf::{Access, Guarded, Shelf};
 use nesl_prompt::style::Style;
 use nesl_session::session::Session;
+use nesl_words::limit_words::LimitWords;
 use std::alloc::Global;
 use thiserror::Error;
 
@@ -92,21 +94,22 @@ impl<'x, F> PromptDevices<'x, F> {
     }
 }
 
-/// Runs a prompt over an empty session, until the end of input or `:quit`.
+/// Runs a prompt over an empty session with these limits, until the end of input or `:quit`.
 #[tactic(auto, using(crate::proofs::Ends::heard, crate::proofs::Ends::broken, crate::proofs::Ends::unmade))]
 pub(crate) fn run_prompt<'a, S: Source, W: Sink, F: Shelf>(
     alloc: Global,
     files: &F,
     style: Style,
+    limits: LimitWords,
     reader: &mut S,
     writer: &mut W,
 ) -> Result<(), Failure<'a>>
-    ensures prompted { OnOk result (Prompted (is_plain style) end.Input
+    ensures prompted { OnOk result (Prompted (is_plain style) end.Input (limits_by (limits_wanted limits))
         (S.left reader.old) (S.left reader.new) (W.held writer.old) (W.held writer.new)) }
-    ensures failed { IfErr result (λ failure. PromptFails (is_plain style) failure
+    ensures failed { IfErr result (λ failure. PromptFails (is_plain style) (limits_by (limits_wanted limits)) failure
         (S.left reader.old) (S.left reader.new) (W.held writer.old) (W.held writer.new)) }
 {
-    let Ok(mut session) = Session::new(alloc, LIMITS) else {
+    let Ok(mut session) = Session::new(alloc, limits_by(limits)) else {
         return Err(Failure::Prompt(PromptFault::Memory));
     };
     let ran = converse(alloc, reader, writer, &mut session, files, style);

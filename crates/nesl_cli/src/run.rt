@@ -4,8 +4,9 @@ ghost use Rattle.clap.specs.Words.{HasKind};
 ghost use Rattle.clap.specs.declared.error.Error as clap;
 ghost use Rattle.nesl_house.specs.Roster.{IsRoster, new_house};
 ghost use Rattle.nesl_line.specs.declared.exchange.End.TheVariants as end;
+ghost use Rattle.nesl_words.specs.Wanted.{limits_wanted};
 ghost use Rattle.nesl_words.specs.Words.{faults_of, task_of, users_of};
-ghost use Rattle.nesl_cli.specs.Program.{limits, Batched, IsCarriedOut, BatchFails, Served, TaskFails, Untouched};
+ghost use Rattle.nesl_cli.specs.Program.{limits_by, Batched, IsCarriedOut, BatchFails, Served, TaskFails, Untouched};
 ghost use Rattle.nesl_cli.specs.declared.failure.Failure.{Failure};
 ghost use Rattle.nesl_cli.specs.declared.failure.Refusal.TheVariants as refusal;
 
@@ -13,6 +14,7 @@ use crate::costs::write_costs;
 use crate::failure::{Failure, Refusal};
 use crate::kept::run_keep;
 use crate::prompt::{PromptDevices, run_prompt};
+use crate::terms::limits_by;
 use linked_list_allocator::LocalHeap;
 use nesl_house::house::House;
 use nesl_house::manner::{InHeap, Manner, Plainly};
@@ -25,11 +27,12 @@ use nesl_prompt::hints::Hints;
 use nesl_prompt::shelf::Shelf;
 use nesl_session::limits::Limits;
 use nesl_words::grade_words::Grading;
-use nesl_words::words::{self, NewKeys, Service, Task};
+use nesl_words::limit_words::LimitWords;
+use nesl_words::words::{self, BatchWords, NewKeys, Service, Task};
 use std::alloc::{AllocError, Global};
 use std::mem::ManuallyDrop;
 
-/// The limits of each session, in units of work, elements, lines and bytes.
+/// The limits of each session, unless others are given by words: units of work, elements, lines and bytes.
 pub const LIMITS: Limits = Limits {
     line_work: 1_000_000,
     session_work: 100_000_000,
@@ -52,6 +55,13 @@ pub struct KeysOffer<'a> {
     pub keys: NewKeys<'a>,
 }
 
+/// A request of an operator: its words, and the path by which the service is reached.
+#[derive(Drop)]
+pub struct RequestOffer<'a> {
+    pub words: Vec<&'a str>,
+    pub path: Option<&'a str>,
+}
+
 /// Submissions that are to be graded.
 #[derive(Drop)]
 pub struct GradeOffer<'a> {
@@ -64,11 +74,12 @@ pub struct GradeOffer<'a> {
 pub enum Offered<'a> {
     Service(Offer<'a>),
     Keys(KeysOffer<'a>),
+    Request(RequestOffer<'a>),
     Grade(GradeOffer<'a>),
 }
 
 /// Does what the command line asks for. It runs a batch, its costs or a prompt, or looks at kept sessions. For a
-/// service, for keys or for a grading it returns what is offered, which the caller has to carry out.
+/// service, for keys, for a request or for a grading it returns what is offered, which the caller has to carry out.
 pub fn carry_out<'a, S: Source, W: Sink, F: Shelf + KeptFolders>(
     alloc: Global,
     words: &'a [&'a str],
@@ -93,24 +104,18 @@ pub fn carry_out<'a, S: Source, W: Sink, F: Shelf + KeptFolders>(
     };
     let users = wanted.users;
     match wanted.task {
-        Task::Batch { heap, is_hinted } => {
-            match run_batch(alloc, users.as_slice(), heap, is_hinted, reader, writer) {
-                Ok(()) => Ok(None),
-                Err(failure) => Err(Refusal::Run(failure)),
-            }
-        }
-        Task::Costs { values, heap } => {
-            match write_costs(alloc, users.as_slice(), values, heap, reader, writer) {
-                Ok(()) => Ok(None),
-                Err(failure) => Err(Refusal::Run(failure)),
-            }
-        }
-        Task::Prompt {
-            is_hinted,
-            has_files,
-        } => {
-            let style = devices.terminals.style(is_hinted);
-            match run_prompt(alloc, &devices.guarded(has_files), style, reader, writer) {
+        Task::Batch(batch) => match run_batch(alloc, users.as_slice(), batch, reader, writer) {
+            Ok(()) => Ok(None),
+            Err(failure) => Err(Refusal::Run(failure)),
+        },
+        Task::Costs(costs) => match write_costs(alloc, users.as_slice(), costs, reader, writer) {
+            Ok(()) => Ok(None),
+            Err(failure) => Err(Refusal::Run(failure)),
+        },
+        Task::Prompt(prompt) => {
+            let style = devices.terminals.style(prompt.is_hinted);
+            let files = devices.guarded(prompt.has_files);
+            match run_prompt(alloc, &files, style, prompt.limits, reader, writer) {
                 Ok(()) => Ok(None),
                 Err(failure) => Err(Refusal::Run(failure)),
             }
@@ -121,6 +126,7 @@ pub fn carry_out<'a, S: Source, W: Sink, F: Shelf + KeptFolders>(
         },
         Task::Service(service) => Ok(Some(Offered::Service(Offer { users, service }))),
         Task::Keys(keys) => Ok(Some(Offered::Keys(KeysOffer { users, keys }))),
+        Task::Request(path) => Ok(Some(Offered::Request(RequestOffer { words: users, path }))),
         Task::Grade(grading) => Ok(Some(Offered::Grade(GradeOffer {
             submissions: users,
             grading,
@@ -128,21 +134,22 @@ pub fn carry_out<'a, S: Source, W: Sink, F: Shelf + KeptFolders>(
     }
 }
 
-// Runs a batch for these users. `heap` is the size in bytes of the heap for evaluation, if there is to be one.
+// Runs a batch for these users.
 fn run_batch<'a, S: Source, W: Sink>(
     alloc: Global,
     users: &[&'a str],
-    heap: Option<usize>,
-    is_hinted: bool,
+    batch: BatchWords,
     reader: &mut S,
     writer: &mut W,
 ) -> Result<(), Failure<'a>>
-    ensures served { OnOk result (Served is_hinted end.Input (map (λ user. user.now) users.now)
+    ensures served { OnOk result (Served batch.is_hinted end.Input (limits_by (limits_wanted batch.limits))
+        (map (λ user. user.now) users.now)
         (S.left reader.old) (S.left reader.new) (W.held writer.old) (W.held writer.new)) }
-    ensures failed { IfErr result (λ failure. BatchFails failure is_hinted (map (λ user. user.now) users.now)
+    ensures failed { IfErr result (λ failure. BatchFails failure batch.is_hinted
+        (limits_by (limits_wanted batch.limits)) (map (λ user. user.now) users.now)
         (S.left reader.old) (S.left reader.new) (W.held writer.old) (W.held writer.new)) }
 {
-    let house = run_in_new_house(alloc, users, heap, is_hinted, reader, writer)?;
+    let house = run_in_new_house(alloc, users, batch, reader, writer)?;
     // The program ends after a batch, and the system takes back the memory of the house at once.
     let _house = ManuallyDrop::new(house);
     Ok(())
@@ -152,17 +159,19 @@ fn run_batch<'a, S: Source, W: Sink>(
 fn run_in_new_house<'a, S: Source, W: Sink>(
     alloc: Global,
     users: &[&'a str],
-    heap: Option<usize>,
-    is_hinted: bool,
+    batch: BatchWords,
     reader: &mut S,
     writer: &mut W,
 ) -> Result<House, Failure<'a>>
-    ensures served { OnOk result (Served is_hinted end.Input (map (λ user. user.now) users.now)
+    ensures served { OnOk result (Served batch.is_hinted end.Input (limits_by (limits_wanted batch.limits))
+        (map (λ user. user.now) users.now)
         (S.left reader.old) (S.left reader.new) (W.held writer.old) (W.held writer.new)) }
-    ensures failed { IfErr result (λ failure. BatchFails failure is_hinted (map (λ user. user.now) users.now)
+    ensures failed { IfErr result (λ failure. BatchFails failure batch.is_hinted
+        (limits_by (limits_wanted batch.limits)) (map (λ user. user.now) users.now)
         (S.left reader.old) (S.left reader.new) (W.held writer.old) (W.held writer.new)) }
 {
-    let mut house = open_house(alloc, users)?;
+    let (heap, is_hinted) = (batch.heap, batch.is_hinted);
+    let mut house = open_house(alloc, users, batch.limits)?;
     let Ok(ran) = answer_lines(alloc, reader, writer, &mut house, heap, is_hinted) else {
         return Err(Failure::Memory);
     };
@@ -172,17 +181,23 @@ fn run_in_new_house<'a, S: Source, W: Sink>(
     }
 }
 
-// Makes a house for these users. Nothing is read or written if it is refused.
-pub(crate) fn open_house<'a>(alloc: Global, users: &[&'a str]) -> Result<House, Failure<'a>>
+// Makes a house for these users, whose sessions have these limits. Nothing is read or written if it is refused.
+pub(crate) fn open_house<'a>(
+    alloc: Global,
+    users: &[&'a str],
+    limits: LimitWords,
+) -> Result<House, Failure<'a>>
     ensures roster { OnOk result (IsRoster (map (λ user. user.now) users.now)) }
-    ensures opened { IfOk result (λ house. house ≡ new_house limits (map (λ user. user.now) users.now)) }
+    ensures opened { IfOk result (λ house. house
+        ≡ new_house (limits_by (limits_wanted limits)) (map (λ user. user.now) users.now)) }
     ensures failed { IfErr result (λ failure. (is_hinted : Bool) (left held : Option (List ℕ))
-        → BatchFails failure is_hinted (map (λ user. user.now) users.now) left left held held) }
+        → BatchFails failure is_hinted (limits_by (limits_wanted limits)) (map (λ user. user.now) users.now)
+        left left held held) }
 {
     let Ok(names) = copy_names(alloc, users) else {
         return Err(Failure::Memory);
     };
-    match House::new(alloc, names.as_slice(), LIMITS) {
+    match House::new(alloc, names.as_slice(), limits_by(limits)) {
         Ok(house) => Ok(house),
         Err(fault) => Err(Failure::of_roster(fault, users)),
     }

@@ -7,11 +7,13 @@ ghost use Rattle.nesl_cli.specs.Program.{limits_by};
 ghost use Rattle.nesl_cli.specs.Offered.{has_lines, line_threads, lines_host, nanos_in, page_host, service_offered};
 ghost use Rattle.nesl_cli.specs.Offered.{users_offered, workers_in, IsHost, IsNoHost};
 ghost use Rattle.nesl_words.specs.Listed.{names_listed};
+ghost use Rattle.nesl_words.specs.Wanted.{limits_wanted};
 
 use crate::run::{LIMITS, Offer};
 use nesl_service::service::{FIRST_LINE_SECONDS, Terms};
 use nesl_service::wire::Patience;
 use nesl_session::limits::Limits;
+use nesl_words::limit_words::LimitWords;
 use nesl_words::listed::names_listed;
 use std::alloc::{AllocError, Global};
 use std::net::{IpAddr, Ipv4Addr, SocketAddr};
@@ -48,6 +50,19 @@ fn limit_or(given: Option<usize>, usual: u64) -> u64
     match given {
         Some(given) => given as u64,
         None => usual,
+    }
+}
+
+/// Returns the limits that are given by words, and else the usual ones.
+pub(crate) fn limits_by(given: LimitWords) -> Limits
+    ensures { result ≡ limits_by (limits_wanted given) }
+{
+    Limits {
+        line_work: limit_or(given.line_work, LIMITS.line_work),
+        session_work: limit_or(given.session_work, LIMITS.session_work),
+        elements: limit_or(given.elements, LIMITS.elements),
+        transcript_lines: limit_or(given.transcript_lines, LIMITS.transcript_lines),
+        transcript_bytes: limit_or(given.transcript_bytes, LIMITS.transcript_bytes),
     }
 }
 
@@ -115,14 +130,7 @@ impl Offer<'_> {
     pub fn limits(&self) -> Limits
         ensures { result ≡ limits_by (service_offered self.now).limits }
     {
-        let given = self.service.limits;
-        Limits {
-            line_work: limit_or(given.line_work, LIMITS.line_work),
-            session_work: limit_or(given.session_work, LIMITS.session_work),
-            elements: limit_or(given.elements, LIMITS.elements),
-            transcript_lines: limit_or(given.transcript_lines, LIMITS.transcript_lines),
-            transcript_bytes: limit_or(given.transcript_bytes, LIMITS.transcript_bytes),
-        }
+        limits_by(self.service.limits)
     }
 
     /// The number of threads that serve browsers: one for each user, and four for requests for the page.

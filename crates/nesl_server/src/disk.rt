@@ -1,10 +1,9 @@
 //! The files of this machine, as a prompt loads and saves them.
 
-use crate::replace::{Rights, replace_file, require_regular};
-use nesl_prompt::shelf::{MOST_BYTES, Shelf, ShelfFault};
+use nesl_prompt::shelf::{Shelf, ShelfFault};
+use nesl_system::files::{read_file, write_file};
 use std::alloc::Global;
-use std::fs::{self, File, Metadata, OpenOptions};
-use std::io::{self, Read};
+use std::fs::File;
 use std::rt::Files;
 
 /// The file system of this machine.
@@ -15,66 +14,10 @@ pub struct Disk<'x, R> {
 
 impl<R: Files<File = File>> Shelf for Disk<'_, R> {
     fn read(&self, alloc: Global, path: &str) -> Result<Vec<u8>, ShelfFault> {
-        let bytes = read_up_to(self.rt, alloc, path, MOST_BYTES)?;
-        if bytes.len() > MOST_BYTES {
-            return Err(ShelfFault::Large);
-        }
-        Ok(bytes)
+        read_file(self.rt, alloc, path)
     }
 
     fn write(&self, alloc: Global, path: &str, bytes: &[u8]) -> Result<(), ShelfFault> {
-        match fs::symlink_metadata(self.rt, path) {
-            Ok(there) if there.is_symlink() => write_through_link(self.rt, alloc, path, bytes),
-            Ok(there) => overwrite(self.rt, alloc, path, bytes, &there),
-            Err(error) if error.kind() == io::ErrorKind::NotFound => {
-                replace_file(self.rt, alloc, path, bytes, &Rights::New)
-            }
-            Err(error) => Err(ShelfFault::from(error)),
-        }
+        write_file(self.rt, alloc, path, bytes)
     }
-}
-
-// Reads at most `most + 1` bytes of a file. Only regular files are opened, so that a pipe can't block the prompt. The
-// opened file is checked again, since another may have taken its place.
-fn read_up_to<R: Files<File = File>>(
-    rt: &R,
-    alloc: Global,
-    path: &str,
-    most: usize,
-) -> Result<Vec<u8>, ShelfFault> {
-    require_regular(&fs::metadata(rt, path)?)?;
-    let file = fs::open(rt, path)?;
-    require_regular(&file.metadata()?)?;
-    let mut bytes = Vec::new(alloc);
-    let _ = file
-        .take((most as u64).saturating_add(1))
-        .read_to_end(&mut bytes)?;
-    Ok(bytes)
-}
-
-// Writes the file that a symbolic link leads to. The link stays.
-fn write_through_link<R: Files<File = File>>(
-    rt: &R,
-    alloc: Global,
-    link: &str,
-    bytes: &[u8],
-) -> Result<(), ShelfFault> {
-    let there = fs::metadata(rt, link)?;
-    require_regular(&there)?;
-    let path = rt.canonicalize(alloc, link)?;
-    overwrite(rt, alloc, path.as_str(), bytes, &there)
-}
-
-// Overwrites an existing file, if it is regular and may be written. It is opened only to learn that. Its content is
-// lost only after the new file is complete.
-fn overwrite<R: Files<File = File>>(
-    rt: &R,
-    alloc: Global,
-    path: &str,
-    bytes: &[u8],
-    there: &Metadata,
-) -> Result<(), ShelfFault> {
-    require_regular(there)?;
-    let _ = OpenOptions::new().write(true).open(rt, path)?;
-    replace_file(rt, alloc, path, bytes, &Rights::Kept(there))
 }

@@ -3,10 +3,10 @@
 ghost use Rattle.std.specs.Prelude.{⊤};
 
 use crate::disk::Disk;
-use crate::stamp::Stamp;
 use nesl_keep_file::{ListedNames, LookFault, list_names, put_aside, read_file};
 use nesl_kept::folder::{FolderNames, KeptFolders, PlaceFault, Warning};
 use nesl_service_records::system::SystemError;
+use nesl_system::stamp::Stamp;
 use std::alloc::Global;
 use std::fs::File;
 use std::io::Eprint;

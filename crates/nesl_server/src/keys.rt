@@ -1,10 +1,11 @@
 //! Makes keys for users, in a file that lists their digests.
 
-use nesl_cli::failure::{Failure, KeysRefusal};
+use nesl_cli::failure::Failure;
 use nesl_cli::run::KeysOffer;
 use nesl_keys::make::{Made, Newcomer, RenewFault, make_keys, renew_key};
 use nesl_keys::name::is_user_name;
 use nesl_prompt::shelf::{Shelf, ShelfFault};
+use nesl_system::refusal::KeysRefusal;
 use std::alloc::{AllocError, Global};
 use std::fs::{self, File, OpenOptions};
 use std::io::{self, Print, Write};

@@ -8,21 +8,17 @@ ghost use Rattle.nesl_cli.specs.Failures.{status_after, status_of, words_status_
 
 mod disk;
 mod graded;
-mod host;
 mod kept;
 mod keys;
-mod log;
+mod lessons;
 mod offer;
-mod replace;
-mod stamp;
+mod request;
+mod ring;
 mod standard;
-mod stats;
-mod strangers;
 mod users;
 
 use crate::disk::Disk;
 use crate::standard::fill_standard;
-use crate::stats::Replace;
 use clap::error::ErrorKind;
 use nesl_cli::failure::{Failure, Refusal, status_after, words_status};
 use nesl_cli::prompt::{PromptDevices, Terminals};
@@ -30,9 +26,13 @@ use nesl_cli::run::{self, Offer, Offered};
 use nesl_keep_file::Storage;
 use nesl_kept::folder::KeptFolders;
 use nesl_line::device::{Device, Sink, Source};
+use nesl_operator::facts::Resident;
 use nesl_prompt::shelf::Shelf;
-use nesl_service::crowd::STACK_BYTES;
 use nesl_service::service::ANSWER_BYTES;
+use nesl_system::key_file::ReadKeys;
+use nesl_system::log_file::Append;
+use nesl_system::replace::Replace;
+use nesl_system::socket::Sockets;
 use nesl_words::words::example;
 use std::alloc::{AllocError, Global};
 use std::fs::File;
@@ -45,6 +45,10 @@ use std::sync::Wait;
 use std::thread::{Builder, Threads};
 use std::time::Clock;
 use std::{env, thread};
+
+/// The stack of the thread on which the program runs. An account of an expression recurs on it, over as many as 1,000
+/// levels. Only what is touched takes memory.
+const STACK_BYTES: usize = 16_777_216;
 
 /// An upper bound for the length of a subcommand in bytes.
 const COMMAND_BYTES: usize = 16;
@@ -137,6 +141,10 @@ fn run_program<
         + Storage
         + RandomSource
         + Replace
+        + Append
+        + ReadKeys
+        + Resident
+        + Sockets
         + Alloc
         + Clone
         + Drop
@@ -160,6 +168,7 @@ fn run_program<
         Ok(Some(Offered::Keys(offer))) => {
             finish_offer(rt, keys::make(rt, alloc, &offer, devices.files))
         }
+        Ok(Some(Offered::Request(offer))) => finish_offer(rt, request::ask(rt, alloc, &offer)),
         Ok(Some(Offered::Grade(offer))) => {
             graded::run_grading(rt, alloc, &offer, devices.terminals.output)
         }
@@ -178,19 +187,27 @@ fn run_service<
         + Eprint
         + Storage
         + Replace
+        + Append
+        + ReadKeys
+        + Resident
+        + Sockets
         + Clone
         + Drop
         + Send
         + Sync
         + 'static,
-    F: Shelf,
+    F: Shelf + KeptFolders,
 >(rt: &R, alloc: Global, offer: &Offer<'_>, shelf: &F) -> ExitCode {
     let text = match users::read(alloc, offer, shelf) {
         Ok(text) => text,
         Err(failure) => return report_failure(rt, failure),
     };
+    let lessons = match lessons::read(rt, alloc, offer, shelf) {
+        Ok(lessons) => lessons,
+        Err(failure) => return report_failure(rt, failure),
+    };
     match users::add(alloc, offer, text) {
-        Ok(offer) => finish_offer(rt, offer::keep(rt, alloc, &offer, shelf)),
+        Ok(offer) => finish_offer(rt, offer::keep(rt, alloc, &offer, lessons)),
         Err(failure) => report_failure(rt, failure),
     }
 }

@@ -5,9 +5,9 @@ ghost use Rattle.clap.specs.Matches.{found_of};
 ghost use Rattle.clap.specs.Walk.{rows_of, rule_of};
 ghost use Rattle.nesl_words.specs.Shapes.{IsShaped};
 ghost use Rattle.nesl_words.specs.Wanted.{grading_wanted, report_wanted};
-ghost use Rattle.nesl_words.specs.Words.{csv_report_rule, exercise_rule, grade, grading_among, html_rule, jobs_rule};
-ghost use Rattle.nesl_words.specs.Words.{json_report_rule, junit_report_rule, report_among};
-ghost use Rattle.nesl_words.specs.Words.{submissions_rule, try_rule};
+ghost use Rattle.nesl_words.specs.Rules.{csv_report_rule, exercise_rule, grade, html_rule, jobs_rule};
+ghost use Rattle.nesl_words.specs.Rules.{json_report_rule, junit_report_rule, kept_rule, submissions_rule, try_rule};
+ghost use Rattle.nesl_words.specs.Words.{grading_among, report_among};
 
 use crate::help;
 use crate::words::{has_flag, number, number_option, text, text_option, with_option};
@@ -28,12 +28,14 @@ pub enum Report {
 }
 
 /// The options of `grade`: the path of the exercise, and how the grades are written. `html` is a folder for pages,
-/// and `jobs` the number of threads. With `is_try` the exercise's own solution is graded as well.
+/// `kept` one of kept sessions, which are graded as well, and `jobs` the number of threads. With `is_try` the
+/// exercise's own solution is graded, too.
 #[derive(Clone, Copy)]
 pub struct Grading<'a> {
     pub exercise: Option<&'a str>,
     pub report: Report,
     pub html: Option<&'a str>,
+    pub kept: Option<&'a str>,
     pub jobs: Option<usize>,
     pub is_try: bool,
 }
@@ -49,7 +51,8 @@ pub(crate) fn grade<'a>(alloc: Global) -> Result<Command<'a>, AllocError>
     let with_json = with_option(with_csv, json(alloc));
     let with_junit = with_option(with_json, junit(alloc));
     let with_html = with_option(with_junit, html(alloc));
-    let with_jobs = with_option(with_html, jobs(alloc));
+    let with_kept = with_option(with_html, kept(alloc));
+    let with_jobs = with_option(with_kept, jobs(alloc));
     let with_try = with_option(with_jobs, solution(alloc));
     let with_exercise = with_option(with_try, exercise(alloc));
     with_option(with_exercise, submissions(alloc))
@@ -90,6 +93,13 @@ fn html<'a>(alloc: Global) -> Arg<'a>
     ensures local { result.global ≡ false }
 {
     text(alloc, "HTML", "html", help::GRADE_HTML).value_name("FOLDER")
+}
+
+fn kept<'a>(alloc: Global) -> Arg<'a>
+    ensures rule { rule_of result ≡ kept_rule }
+    ensures local { result.global ≡ false }
+{
+    text(alloc, "KEPT", "kept", help::GRADE_KEPT).value_name("FOLDER")
 }
 
 fn jobs<'a>(alloc: Global) -> Arg<'a>
@@ -143,6 +153,7 @@ pub(crate) fn grading_found<'a>(matches: &ArgMatches<'a>) -> Grading<'a>
         exercise: text_option(matches, "EXERCISE"),
         report: report_for(is_csv, is_json, has_flag(matches, "JUNIT")),
         html: text_option(matches, "HTML"),
+        kept: text_option(matches, "KEPT"),
         jobs: number_option(matches, "JOBS"),
         is_try: has_flag(matches, "TRY"),
     }

@@ -1,5 +1,5 @@
 //! The help texts. Their lines are broken by hand, so that printed lines have at most 79 columns. Beside the options of
-//! `batch` there are 57 columns, beside those of `serve` 44, and beside those of the commands of `keep` 66.
+//! `batch`, `repl` and `serve` there are 44 columns, and beside those of the commands of `keep` 66.
 
 pub(crate) const ABOUT: &str = "NESL sessions for many users, every reply of which is proved";
 
@@ -9,16 +9,19 @@ pub(crate) const USERS: &str = "\
 A user's name: 1 to 16 small letters and digits, a letter
 first; 1 to 64 users, each named once";
 
-pub(crate) const HEAP: &str = "Evaluates in a heap of this size: 16 to 1073741824 bytes";
+pub(crate) const HEAP: &str = "\
+Evaluates in a heap of this size: 16 to
+1073741824 bytes";
 
 pub(crate) const CSV: &str = "\
-Writes n, work and depth of the last line for each of
-these values of n, as 1,2,4,8; the lines of standard
-input are run again for each";
+Writes n, work and depth of the last line
+for each of these values of n, as 1,2,4,8;
+the lines of standard input are run again
+for each";
 
 pub(crate) const HINTS: &str = "\
-Writes below a fault what is wrong and where, in one line
-that begins with `hint: `";
+Writes below a fault what is wrong and
+where, in one line that begins with `hint: `";
 
 pub(crate) const SERVE: &str = "\
 Answers the lines of connections to 127.0.0.1, each of one user;
@@ -44,6 +47,10 @@ is any that is free";
 pub(crate) const WEB_HOST: &str = "\
 A name by which browsers may ask for the
 page, beside localhost, 127.0.0.1 and [::1]";
+
+pub(crate) const LESSONS: &str = "\
+Shows the lessons of this folder in the page
+in place of ours: a file `.md` for each";
 
 pub(crate) const IDLE: &str = "\
 Ends a connection whose line isn't complete
@@ -117,15 +124,36 @@ Reads the words, the users and the keys, and
 locks the folder of --keep; then it ends,
 and nothing is served";
 
+pub(crate) const CONTROL_PATH: &str = "\
+Lets an operator steer the service by the
+socket of this path, by `pazkindu control`;
+its folder must be closed to all others";
+
+pub(crate) const METRICS: &str = "\
+Answers a monitor on this port of 127.0.0.1:
+0 to 65535, where 0 is any that is free";
+
+pub(crate) const LOG_FILE: &str = "\
+Logs as --log does, but into this file, to
+which lines are added";
+
+pub(crate) const CONTROL: &str = "Asks a running service, by the socket of `serve --control`";
+
+pub(crate) const PATH: &str = "The socket of `serve --control PATH`";
+
+pub(crate) const REQUEST: &str = "What is asked, as `seats` or `renew ann`";
+
 pub(crate) const REPL: &str = "\
 Opens a session of one's own, with a prompt, help, and hints below
 faults";
 
-pub(crate) const REPL_HINTS: &str = "Shows hints even if standard output is no terminal";
+pub(crate) const REPL_HINTS: &str = "\
+Shows hints even if standard output is no
+terminal";
 
 pub(crate) const REPL_FILES: &str = "\
-Lets :load and :save open files also if standard input is no
-terminal";
+Lets :load and :save open files also if
+standard input is no terminal";
 
 pub(crate) const KEPT: &str = "Looks at the sessions that `serve --keep` keeps";
 
@@ -144,7 +172,7 @@ pub(crate) const KEPT_USER: &str =
     "A user's name: 1 to 16 small letters and digits, a letter first";
 
 pub(crate) const KEYS: &str = "\
-Makes a key for each user, with which a first line is `user NAME KEY`";
+Makes keys, with which a first line is `user NAME KEY`";
 
 pub(crate) const OUT: &str = "\
 Writes salts and digests of the keys into this new file,
@@ -168,6 +196,28 @@ pub(crate) const REPL_EXAMPLE: &str = "For example: pazkindu repl";
 pub(crate) const KEPT_EXAMPLE: &str = "For example: pazkindu keep check sessions ann";
 
 pub(crate) const KEYS_EXAMPLE: &str = "For example: pazkindu keys --out class.keys ann bob";
+
+pub(crate) const CONTROL_EXAMPLE: &str = "For example: pazkindu control run/socket seats";
+
+pub(crate) const CONTROL_AFTER: &str = "\
+The words are one of these:
+
+    seats           a row for each user: who is here, what is left, how it goes
+    end USER        ends the user's connections
+    renew USER      ends the session of a user who has no connection, and begins
+                    another one, with all work and nothing bound
+    stop [SECONDS]  lets nobody in any more, and ends the service once all users
+                    have left, but no later than after SECONDS
+    reopen          opens the file of --log-file anew
+    keys            reads the file of --keys again, for those who sign in later
+    check           how many threads have a connection, and whether the disk of
+                    --keep can be written
+
+The last line of the answer is `ok`, or `error` and the reason. A `check` waits
+up to ten seconds for a service that is being started.
+
+Exit status: 0 after `ok`, 1 after `error` or if the service isn't reached, 2 if
+the words are wrong.";
 
 pub(crate) const BATCH_AFTER: &str = "\
 A line `user NAME` selects the user that the lines after it are for. Each
@@ -213,9 +263,9 @@ failed, or a line could not be kept, 2 if the words or the users' names are
 wrong.";
 
 pub(crate) const REPL_AFTER: &str = "\
-A form may go on over several lines, until its `;` or an empty line. It is
-answered by one line, as in a batch, and below a fault is what is wrong, and
-where:
+A form may go on over several lines, until its `;`. At a terminal two blank
+lines end it too. It is answered by one line, as in a batch, and below a fault
+is what is wrong, and where:
 
     > sum 3;
     fault syntax (work 0)
@@ -330,8 +380,13 @@ pub(crate) const GRADE_JSON: &str = "Writes JSON: an object for each submission"
 
 pub(crate) const GRADE_JUNIT: &str = "Writes XML as JUnit does: a suite for each submission";
 
-pub(crate) const GRADE_HTML: &str =
-    "Writes a page for each submission into this new folder, and index.html";
+pub(crate) const GRADE_HTML: &str = "\
+Writes a page for each submission into this new folder,
+and index.html";
+
+pub(crate) const GRADE_KEPT: &str = "\
+Grades the kept sessions of this folder, too, as
+serve --keep leaves them";
 
 pub(crate) const GRADE_JOBS: &str = "The number of threads, 1 to 64 (1 if not given)";
 
@@ -345,24 +400,22 @@ pub(crate) const GRADE_EXAMPLE: &str =
     "For example: pazkindu grade lessons/exercises/quicksort.md submissions";
 
 pub(crate) const GRADE_AFTER: &str = "\
-It prints the points of each submission, and below them each test that isn't
-passed, as
+It prints the points of each submission, and the first test that isn't passed,
+as
 
-    ann.nesl  15 of 15
-    bob.nesl  9 of 15
-
-    bob.nesl
-      line 14: n = 128: 102282 is above 69180
+    ann.nesl  13 of 13
+    bob.nesl  9 of 13  line 14: n = 128: 102282 is above 61500
 
 Each test of a submission has a session of its own. It gets what the exercise
-gives, then the submission, then the test. docs/GRADING.md describes how
-exercises are written.
+gives, then the submission, then the test. With --kept a submission is the lines
+of a user since the last :reset. docs/GRADING.md describes how exercises are
+written, and goes from an empty folder to the report of a class.
 
 For example: pazkindu grade lessons/exercises/quicksort.md submissions
 
 Exit status: 0 if all submissions were graded, whatever their points, 1 if a
 file can't be read, the exercise is wrong, or a device or memory failed, 2 if
-the words are wrong.";
+the words are wrong or there is no submission.";
 
 pub(crate) const PROGRAM_AFTER: &str = "\
 `pazkindu repl` opens a session to try things in. For others, with one user
@@ -371,5 +424,5 @@ whose name is ann,
     printf 'user ann\\n2 * 3 + 1;\\n' | pazkindu batch ann
 
 prints `user ann` and `it = 7 : int (work 5, depth 5)`. `pazkindu repl --help`,
-and so for batch, serve, keys and keep, says more; README.md is where the guide
-begins, and docs/LANGUAGE.md has the language.";
+and so for batch, serve, keys, control and keep, says more; README.md is where
+the guide begins, and docs/LANGUAGE.md has the language.";

@@ -4,8 +4,9 @@ ghost use Rattle.std.specs.Prelude.{◌≡◌, IfOk, false};
 ghost use Rattle.clap.specs.Walk.{rule_of};
 ghost use Rattle.clap.specs.Words.{app_of};
 ghost use Rattle.nesl_words.specs.Shapes.{IsShaped};
-ghost use Rattle.nesl_words.specs.Words.{check, csv_of_kept, folder_rule, keep, keep_program, keep_without_commands};
-ghost use Rattle.nesl_words.specs.Words.{one_user_rule, renew, show, user_rule, word_named};
+ghost use Rattle.nesl_words.specs.Rules.{check, csv_of_kept, folder_rule, keep, keep_program, keep_without_commands};
+ghost use Rattle.nesl_words.specs.Rules.{one_user_rule, renew, show, user_rule};
+ghost use Rattle.nesl_words.specs.Words.{word_named};
 ghost use Rattle.nesl_words.specs.Wanted.{option_word};
 
 use crate::help;

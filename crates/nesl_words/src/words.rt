@@ -6,22 +6,24 @@ ghost use Rattle.clap.specs.Matches.{found_of};
 ghost use Rattle.clap.specs.Simple.{App, Shape, subcommand_of, with_subcommand};
 ghost use Rattle.clap.specs.Words.{app_of, fault_of, FailsBy, is_simple, is_simple_and_free, subcommand_rows_of};
 ghost use Rattle.nesl_words.specs.Shapes.{IsShaped, with_rule};
-ghost use Rattle.nesl_words.specs.Words.{bind_rule, check_rule, further_users_rule, users_file_rule};
-ghost use Rattle.nesl_words.specs.Words.{batch, batch_among, connections_rule, csv_rule, faults_of, files_rule};
-ghost use Rattle.nesl_words.specs.Words.{first_line_rule, heap_rule, hints_rule, idle_rule, is_among, is_keep};
-ghost use Rattle.nesl_words.specs.Words.{keep_rule, keys, keys_among, keys_file_rule, log_rule, number_among};
-ghost use Rattle.nesl_words.specs.Words.{number_rule, out_rule, page_rule, port_rule, program, renew_rule, repl};
-ghost use Rattle.nesl_words.specs.Words.{serve, service_among, stats_rule, task_among, task_in, task_of};
-ghost use Rattle.nesl_words.specs.Words.{text_among, text_rule, user_header_rule, users_among, users_in, users_of};
-ghost use Rattle.nesl_words.specs.Words.{elements_rule, limits_among, line_work_rule, session_work_rule};
-ghost use Rattle.nesl_words.specs.Words.{transcript_bytes_rule, transcript_lines_rule};
-ghost use Rattle.nesl_words.specs.Words.{users_rule, web_host_rule, web_rule};
-ghost use Rattle.nesl_words.specs.Words.{without_subcommands, workers_rule};
-ghost use Rattle.nesl_words.specs.Wanted.{keys_wanted, limits_wanted, service_wanted, task_wanted, users_wanted};
+ghost use Rattle.nesl_words.specs.Rules.{batch, bind_rule, check_rule, connections_rule, csv_rule, files_rule};
+ghost use Rattle.nesl_words.specs.Rules.{first_line_rule, further_users_rule, heap_rule, hints_rule, idle_rule};
+ghost use Rattle.nesl_words.specs.Rules.{keep_rule, keys, keys_file_rule, lessons_rule, log_rule, number_rule};
+ghost use Rattle.nesl_words.specs.Rules.{out_rule, page_rule, port_rule, program, renew_rule, repl, serve, stats_rule};
+ghost use Rattle.nesl_words.specs.Rules.{user_header_rule, users_file_rule, users_rule, web_host_rule, web_rule};
+ghost use Rattle.nesl_words.specs.Rules.{text_rule, without_subcommands, workers_rule};
+ghost use Rattle.nesl_words.specs.Words.{batch_among, faults_of, is_among, is_keep, keys_among, limits_among};
+ghost use Rattle.nesl_words.specs.Words.{number_among, prompt_among, service_among, task_among, task_in, task_of};
+ghost use Rattle.nesl_words.specs.Words.{text_among, users_among, users_in, users_of};
+ghost use Rattle.nesl_words.specs.Wanted.{keys_wanted, prompt_wanted, service_wanted, task_wanted, users_wanted};
 
+use crate::control_words::{
+    OperatorWords, control, control_path, log_file, metrics, operator_found,
+};
 use crate::grade_words::{Grading, grade, grading_found};
 use crate::help;
 use crate::keep_words::{Keep, keep_command, keep_listed, word_named};
+use crate::limit_words::{LimitWords, NO_LIMITS, limits_found, with_limits};
 use clap::builder::ValueParser;
 use clap::{Arg, ArgAction, ArgMatches, Command, Error};
 use std::alloc::{AllocError, Global};
@@ -29,31 +31,20 @@ use std::alloc::{AllocError, Global};
 /// The program's version, which `--version` prints. scripts/package gives the package the same one.
 pub const VERSION: &str = "1.0.0";
 
+/// The kit with which the program is proved. scripts/check_promises compares it with docs/PROMISES.md.
+pub const KIT: &str = "rattle-kit-13f";
+
 /// The most seconds for a line to arrive, or for an answer to be taken.
 const MOST_SECONDS: u64 = 86_400;
 
 /// The greatest port.
-const MOST_PORT: u64 = 65_535;
+pub(crate) const MOST_PORT: u64 = 65_535;
 
 /// The most helpers of a service.
 const MOST_WORKERS: u64 = 64;
 
 /// The most connections after which a service ends.
 const MOST_CONNECTIONS: u64 = 1_000_000;
-
-/// The least work of a session by words, which is what it always has. So the page needs no other bar for what is left.
-const LEAST_SESSION_WORK: u64 = 100_000_000;
-
-/// The greatest limits of a session by words. With that of work a line takes minutes.
-const MOST_LINE_WORK: u64 = 1_000_000_000;
-
-const MOST_SESSION_WORK: u64 = 1_000_000_000_000_000;
-
-const MOST_ELEMENTS: u64 = 1_000_000_000;
-
-const MOST_LINES: u64 = 1_000_000;
-
-const MOST_LINE_BYTES: u64 = 1_073_741_824;
 
 /// The fewest bytes of a heap.
 const LEAST_HEAP: u64 = 16;
@@ -64,41 +55,62 @@ const MOST_HEAP: u64 = 1_073_741_824;
 /// What the command line asks for.
 #[derive(Clone, Copy)]
 pub enum Task<'a> {
-    /// A batch. `heap` is the size in bytes of its heap for evaluation, if there is to be one.
-    Batch {
-        heap: Option<usize>,
-        /// Whether hints are written below faults.
-        is_hinted: bool,
-    },
-    /// The costs of a batch as CSV, for each of these values of `n`, separated by commas. `heap` is as above.
-    Costs {
-        values: &'a str,
-        heap: Option<usize>,
-    },
+    Batch(BatchWords),
+    Costs(CostsWords<'a>),
     Service(Service<'a>),
     Keys(NewKeys<'a>),
-    /// A prompt.
-    Prompt {
-        /// Whether hints are written even if standard output is no terminal.
-        is_hinted: bool,
-        /// Whether files may be opened even if standard input is no terminal.
-        has_files: bool,
-    },
+    Prompt(PromptWords),
     /// A look at kept sessions, of the one user that is named or of all.
     Keep(Keep<'a>),
+    /// A request of an operator, whose words are the users, to the service that is reached by this path.
+    Request(Option<&'a str>),
     /// A grading. Its submissions are the users.
     Grade(Grading<'a>),
 }
 
+/// The options of `batch`.
+#[derive(Clone, Copy)]
+pub struct BatchWords {
+    /// The size in bytes of the heap for evaluation, if there is to be one.
+    pub heap: Option<usize>,
+    /// Whether hints are written below faults.
+    pub is_hinted: bool,
+    /// Those of each session.
+    pub limits: LimitWords,
+}
+
+/// The options of `batch --csv`, which writes the costs of a batch.
+#[derive(Clone, Copy)]
+pub struct CostsWords<'a> {
+    /// The values of `n`, separated by commas.
+    pub values: &'a str,
+    /// As those of a batch.
+    pub heap: Option<usize>,
+    pub limits: LimitWords,
+}
+
+/// The options of `repl`.
+#[derive(Clone, Copy)]
+pub struct PromptWords {
+    /// Whether hints are written even if standard output is no terminal.
+    pub is_hinted: bool,
+    /// Whether files may be opened even if standard input is no terminal.
+    pub has_files: bool,
+    /// Those of its session.
+    pub limits: LimitWords,
+}
+
 /// The options of `serve`. `workers` is the number of helpers, and `connections` the number of connections after which
 /// the service ends. `web` is the port of the page, and `web_host` a further name by which it may be requested.
+/// `lessons` is a folder of lessons that the page shows in place of ours.
 ///
 /// The times are in seconds. A line has `idle` seconds to arrive whole, and so has each piece of an answer to be taken.
 /// The first line of a connection has `first_line` seconds. A connection that takes longer is ended. With `is_logged`
 /// each connection is logged, and `stats` is the file for the counters. `keep` is the folder where sessions are kept.
 /// `keys` is the file of the users' keys, and `user_header` the name of the header that names the user of a browser.
 /// `bind` is the address where it listens, if that isn't this machine's own alone, and `limits` are those of each
-/// session. `users` is a file that lists further users. With `is_check` the service ends before it listens.
+/// session. `users` is a file that lists further users. With `is_check` the service ends before it listens. `operator`
+/// says where an operator reaches it.
 #[derive(Clone, Copy)]
 pub struct Service<'a> {
     pub port: Option<usize>,
@@ -106,6 +118,7 @@ pub struct Service<'a> {
     pub connections: Option<usize>,
     pub web: Option<usize>,
     pub web_host: Option<&'a str>,
+    pub lessons: Option<&'a str>,
     pub idle: Option<usize>,
     pub first_line: Option<usize>,
     pub is_logged: bool,
@@ -117,17 +130,7 @@ pub struct Service<'a> {
     pub limits: LimitWords,
     pub users: Option<&'a str>,
     pub is_check: bool,
-}
-
-/// The limits of each session by words, in units of work, elements, lines and bytes. Those that aren't given are as
-/// they always are.
-#[derive(Clone, Copy)]
-pub struct LimitWords {
-    pub line_work: Option<usize>,
-    pub session_work: Option<usize>,
-    pub elements: Option<usize>,
-    pub transcript_lines: Option<usize>,
-    pub transcript_bytes: Option<usize>,
+    pub operator: OperatorWords<'a>,
 }
 
 /// The options of `keys`. `file` lists the users, and with `is_renewed` it is there already. `page` is the address of
@@ -196,6 +199,7 @@ pub fn example(words: &[&str]) -> &'static str {
         Some(word) if *word == "serve" => help::SERVE_EXAMPLE,
         Some(word) if *word == "repl" => help::REPL_EXAMPLE,
         Some(word) if *word == "keys" => help::KEYS_EXAMPLE,
+        Some(word) if *word == "control" => help::CONTROL_EXAMPLE,
         Some(word) if *word == "keep" => help::KEPT_EXAMPLE,
         Some(word) if *word == "grade" => help::GRADE_EXAMPLE,
         _ => help::BATCH_EXAMPLE,
@@ -210,7 +214,8 @@ fn command<'a>(alloc: Global) -> Result<Command<'a>, AllocError>
     let with_serve = with_subcommand(with_batch, serve(alloc));
     let with_repl = with_subcommand(with_serve, repl(alloc));
     let with_keys = with_subcommand(with_repl, keys(alloc));
-    let with_keep = with_subcommand(with_keys, keep_listed(alloc));
+    let with_control = with_subcommand(with_keys, control(alloc));
+    let with_keep = with_subcommand(with_control, keep_listed(alloc));
     with_subcommand(with_keep, grade(alloc))
 }
 
@@ -258,7 +263,8 @@ fn batch<'a>(alloc: Global) -> Result<Command<'a>, AllocError>
     let with_heap = with_option(Ok(named), heap(alloc));
     let with_csv = with_option(with_heap, csv(alloc));
     let with_hints = with_option(with_csv, hints(alloc, help::HINTS));
-    with_option(with_hints, user(alloc))
+    let with_bounds = with_limits(alloc, with_hints);
+    with_option(with_bounds, user(alloc))
 }
 
 fn repl<'a>(alloc: Global) -> Result<Command<'a>, AllocError>
@@ -268,7 +274,8 @@ fn repl<'a>(alloc: Global) -> Result<Command<'a>, AllocError>
         .about(help::REPL)
         .after_help(help::REPL_AFTER);
     let with_hints = with_option(Ok(named), hints(alloc, help::REPL_HINTS));
-    with_option(with_hints, files(alloc))
+    let with_files = with_option(with_hints, files(alloc));
+    with_limits(alloc, with_files)
 }
 
 fn serve<'a>(alloc: Global) -> Result<Command<'a>, AllocError>
@@ -282,7 +289,8 @@ fn serve<'a>(alloc: Global) -> Result<Command<'a>, AllocError>
     let with_connections = with_option(with_workers, connections(alloc));
     let with_web = with_option(with_connections, web(alloc));
     let with_web_host = with_option(with_web, web_host(alloc));
-    let with_idle = with_option(with_web_host, idle(alloc));
+    let with_lessons = with_option(with_web_host, lessons(alloc));
+    let with_idle = with_option(with_lessons, idle(alloc));
     let with_first_line = with_option(with_idle, first_line(alloc));
     let with_log = with_option(with_first_line, log(alloc));
     let with_stats = with_option(with_log, stats(alloc));
@@ -290,14 +298,13 @@ fn serve<'a>(alloc: Global) -> Result<Command<'a>, AllocError>
     let with_keys = with_option(with_keep, keys_file(alloc));
     let with_header = with_option(with_keys, user_header(alloc));
     let with_bind = with_option(with_header, bind(alloc));
-    let with_line_work = with_option(with_bind, line_work(alloc));
-    let with_session_work = with_option(with_line_work, session_work(alloc));
-    let with_elements = with_option(with_session_work, elements(alloc));
-    let with_lines = with_option(with_elements, transcript_lines(alloc));
-    let with_bytes = with_option(with_lines, transcript_bytes(alloc));
-    let with_users = with_option(with_bytes, users_file(alloc));
+    let with_bounds = with_limits(alloc, with_bind);
+    let with_users = with_option(with_bounds, users_file(alloc));
     let with_check = with_option(with_users, check(alloc));
-    with_option(with_check, further_users(alloc))
+    let with_control = with_option(with_check, control_path(alloc));
+    let with_metrics = with_option(with_control, metrics(alloc));
+    let with_log_file = with_option(with_metrics, log_file(alloc));
+    with_option(with_log_file, further_users(alloc))
 }
 
 fn keys<'a>(alloc: Global) -> Result<Command<'a>, AllocError>
@@ -352,6 +359,13 @@ fn web_host<'a>(alloc: Global) -> Arg<'a>
     ensures local { result.global ≡ false }
 {
     text(alloc, "HOST", "web-host", help::WEB_HOST).value_name("NAME")
+}
+
+fn lessons<'a>(alloc: Global) -> Arg<'a>
+    ensures rule { rule_of result ≡ lessons_rule }
+    ensures local { result.global ≡ false }
+{
+    text(alloc, "LESSONS", "lessons", help::LESSONS).value_name("FOLDER")
 }
 
 fn idle<'a>(alloc: Global) -> Arg<'a>
@@ -438,81 +452,6 @@ fn check<'a>(alloc: Global) -> Arg<'a>
         .action(ArgAction::SetTrue)
 }
 
-fn line_work<'a>(alloc: Global) -> Arg<'a>
-    ensures rule { rule_of result ≡ line_work_rule }
-    ensures local { result.global ≡ false }
-{
-    number(
-        alloc,
-        "LINE_WORK",
-        "line-work",
-        help::LINE_WORK,
-        1,
-        MOST_LINE_WORK,
-    )
-    .value_name("WORK")
-}
-
-fn session_work<'a>(alloc: Global) -> Arg<'a>
-    ensures rule { rule_of result ≡ session_work_rule }
-    ensures local { result.global ≡ false }
-{
-    number(
-        alloc,
-        "SESSION_WORK",
-        "session-work",
-        help::SESSION_WORK,
-        LEAST_SESSION_WORK,
-        MOST_SESSION_WORK,
-    )
-    .value_name("WORK")
-}
-
-fn elements<'a>(alloc: Global) -> Arg<'a>
-    ensures rule { rule_of result ≡ elements_rule }
-    ensures local { result.global ≡ false }
-{
-    number(
-        alloc,
-        "ELEMENTS",
-        "elements",
-        help::ELEMENTS,
-        1,
-        MOST_ELEMENTS,
-    )
-    .value_name("COUNT")
-}
-
-fn transcript_lines<'a>(alloc: Global) -> Arg<'a>
-    ensures rule { rule_of result ≡ transcript_lines_rule }
-    ensures local { result.global ≡ false }
-{
-    number(
-        alloc,
-        "LINES",
-        "transcript-lines",
-        help::TRANSCRIPT_LINES,
-        1,
-        MOST_LINES,
-    )
-    .value_name("COUNT")
-}
-
-fn transcript_bytes<'a>(alloc: Global) -> Arg<'a>
-    ensures rule { rule_of result ≡ transcript_bytes_rule }
-    ensures local { result.global ≡ false }
-{
-    number(
-        alloc,
-        "LINE_BYTES",
-        "transcript-bytes",
-        help::TRANSCRIPT_BYTES,
-        1,
-        MOST_LINE_BYTES,
-    )
-    .value_name("BYTES")
-}
-
 fn csv<'a>(alloc: Global) -> Arg<'a>
     ensures rule { rule_of result ≡ csv_rule }
     ensures local { result.global ≡ false }
@@ -571,7 +510,7 @@ fn page<'a>(alloc: Global) -> Arg<'a>
     text(alloc, "ADDRESS", "page", help::PAGE)
 }
 
-fn user<'a>(alloc: Global) -> Arg<'a>
+pub(crate) fn user<'a>(alloc: Global) -> Arg<'a>
     ensures rule { rule_of result ≡ users_rule }
     ensures local { result.global ≡ false }
 {
@@ -633,10 +572,11 @@ fn wanted_in<'a>(alloc: Global, matches: &ArgMatches<'a>) -> Result<Wanted<'a>, 
         }
         None => Ok(Wanted {
             users: Vec::new(alloc),
-            task: Task::Batch {
+            task: Task::Batch(BatchWords {
                 heap: None,
                 is_hinted: false,
-            },
+                limits: NO_LIMITS,
+            }),
         }),
     }
 }
@@ -648,13 +588,13 @@ fn task_found<'a>(name: &str, matches: &ArgMatches<'a>) -> Task<'a>
         return Task::Service(service_found(matches));
     }
     if name == "repl" {
-        return Task::Prompt {
-            is_hinted: has_flag(matches, "HINTS"),
-            has_files: has_flag(matches, "FILES"),
-        };
+        return Task::Prompt(prompt_found(matches));
     }
     if name == "keys" {
         return Task::Keys(keys_found(matches));
+    }
+    if name == "control" {
+        return Task::Request(text_option(matches, "PATH"));
     }
     if name == "grade" {
         return Task::Grade(grading_found(matches));
@@ -671,13 +611,33 @@ fn task_found<'a>(name: &str, matches: &ArgMatches<'a>) -> Task<'a>
 fn batch_found<'a>(matches: &ArgMatches<'a>) -> Task<'a>
     ensures { task_wanted result ≡ batch_among (text_among (codes "VALUES") (rows_of (found_of matches.now)))
         (number_among (codes "BYTES") (rows_of (found_of matches.now)))
-        (is_among (codes "HINTS") (rows_of (found_of matches.now))) }
+        (is_among (codes "HINTS") (rows_of (found_of matches.now)))
+        (limits_among (rows_of (found_of matches.now))) }
 {
     let heap = number_option(matches, "BYTES");
     let is_hinted = has_flag(matches, "HINTS");
+    let limits = limits_found(matches);
     match text_option(matches, "VALUES") {
-        Some(values) => Task::Costs { values, heap },
-        None => Task::Batch { heap, is_hinted },
+        Some(values) => Task::Costs(CostsWords {
+            values,
+            heap,
+            limits,
+        }),
+        None => Task::Batch(BatchWords {
+            heap,
+            is_hinted,
+            limits,
+        }),
+    }
+}
+
+fn prompt_found(matches: &ArgMatches<'_>) -> PromptWords
+    ensures { prompt_wanted result ≡ prompt_among (rows_of (found_of matches.now)) }
+{
+    PromptWords {
+        is_hinted: has_flag(matches, "HINTS"),
+        has_files: has_flag(matches, "FILES"),
+        limits: limits_found(matches),
     }
 }
 
@@ -690,6 +650,7 @@ fn service_found<'a>(matches: &ArgMatches<'a>) -> Service<'a>
         connections: number_option(matches, "CONNECTIONS"),
         web: number_option(matches, "WEB"),
         web_host: text_option(matches, "HOST"),
+        lessons: text_option(matches, "LESSONS"),
         idle: number_option(matches, "SECONDS"),
         first_line: number_option(matches, "FIRST"),
         is_logged: has_flag(matches, "LOG"),
@@ -701,18 +662,7 @@ fn service_found<'a>(matches: &ArgMatches<'a>) -> Service<'a>
         limits: limits_found(matches),
         users: text_option(matches, "USERS"),
         is_check: has_flag(matches, "CHECK"),
-    }
-}
-
-fn limits_found(matches: &ArgMatches<'_>) -> LimitWords
-    ensures { limits_wanted result ≡ limits_among (rows_of (found_of matches.now)) }
-{
-    LimitWords {
-        line_work: number_option(matches, "LINE_WORK"),
-        session_work: number_option(matches, "SESSION_WORK"),
-        elements: number_option(matches, "ELEMENTS"),
-        transcript_lines: number_option(matches, "LINES"),
-        transcript_bytes: number_option(matches, "LINE_BYTES"),
+        operator: operator_found(matches),
     }
 }
 

@@ -1,6 +1,6 @@
 use Rattle.std.proofs.Common.{◌∙◌, ap, codes}
 use Rattle.clap.specs.Simple.{new_shape, shape_of_fields}
-use Rattle.nesl_words.specs.Words.{folder_rule, one_user_rule}
+use Rattle.nesl_words.specs.Rules.{folder_rule, one_user_rule}
 use Rattle.nesl_words.specs.Shapes.{IsShaped}
 use Rattle.nesl_words.proofs.keep_words.check.Goals as goal
 

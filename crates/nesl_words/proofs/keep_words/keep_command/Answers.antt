@@ -1,4 +1,4 @@
-use Rattle.nesl_words.specs.Words.{keep_without_commands, check, show, renew, csv_of_kept}
+use Rattle.nesl_words.specs.Rules.{keep_without_commands, check, show, renew, csv_of_kept}
 use Rattle.nesl_words.proofs.keep_words.keep_command.Goals as goal
 
 pub returns : goal.returns

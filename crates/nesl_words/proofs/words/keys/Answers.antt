@@ -1,6 +1,6 @@
 use Rattle.std.proofs.Common.{◌∙◌, ap, codes}
 use Rattle.clap.specs.Simple.{new_shape, shape_of_fields}
-use Rattle.nesl_words.specs.Words.{out_rule, page_rule, renew_rule, users_rule}
+use Rattle.nesl_words.specs.Rules.{out_rule, page_rule, renew_rule, users_rule}
 use Rattle.nesl_words.specs.Shapes.{IsShaped}
 use Rattle.nesl_words.proofs.words.keys.Goals as goal
 

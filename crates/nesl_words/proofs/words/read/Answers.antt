@@ -2,7 +2,8 @@ use Rattle.std.proofs.Common.{◌≡◌, ℕ, List, true, false, if◌then◌els
 use Rattle.clap.specs.Simple.{App, subcommand_of}
 use Rattle.clap.specs.Words.{fault_of, FailsBy}
 use Rattle.nesl_words.specs.Wanted.{users_wanted, task_wanted}
-use Rattle.nesl_words.specs.Words.{program, keep_program, program_is_simple, keep_is_simple, is_keep, reader_of, words_read, users_in, task_in}
+use Rattle.nesl_words.specs.Rules.{program, keep_program, program_is_simple, keep_is_simple}
+use Rattle.nesl_words.specs.Words.{is_keep, reader_of, words_read, users_in, task_in}
 use Rattle.nesl_words.proofs.words.read.Goals as goal
 
 -- which command reads the words

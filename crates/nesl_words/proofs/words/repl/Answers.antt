@@ -1,6 +1,6 @@
 use Rattle.std.proofs.Common.{◌∙◌, ap, codes}
 use Rattle.clap.specs.Simple.{new_shape, shape_of_fields}
-use Rattle.nesl_words.specs.Words.{files_rule, hints_rule}
+use Rattle.nesl_words.specs.Rules.{files_rule, hints_rule}
 use Rattle.nesl_words.specs.Shapes.{IsShaped}
 use Rattle.nesl_words.proofs.words.repl.Goals as goal
 
@@ -11,4 +11,5 @@ returns c =
       ap (λ fields. fields.has_globals) c.after_help-named.ensures ∙ ap (λ fields. fields.has_globals) c.about.ensures ∙ c.new.ensures.local,
     ) in
     let has_hints = c.with_option-with_hints.ensures (new_shape (codes "repl")) hints_rule c.hints.ensures.rule is_named in
-    c.with_option.ensures _ files_rule c.files.ensures.rule has_hints
+    let has_files = c.with_option-with_files.ensures _ files_rule c.files.ensures.rule has_hints in
+    c.with_limits.ensures _ has_files

@@ -1,6 +1,6 @@
 use Rattle.std.proofs.Common.{◌∙◌, ap, codes}
 use Rattle.clap.specs.Simple.{new_shape, shape_of_fields}
-use Rattle.nesl_words.specs.Words.{port_rule, workers_rule, connections_rule, web_rule, web_host_rule, idle_rule, first_line_rule, log_rule, stats_rule, keep_rule, keys_file_rule, user_header_rule, bind_rule, line_work_rule, session_work_rule, elements_rule, transcript_lines_rule, transcript_bytes_rule, users_file_rule, check_rule, further_users_rule}
+use Rattle.nesl_words.specs.Rules.{port_rule, workers_rule, connections_rule, web_rule, web_host_rule, lessons_rule, idle_rule, first_line_rule, log_rule, stats_rule, keep_rule, keys_file_rule, user_header_rule, bind_rule, users_file_rule, check_rule, control_rule, metrics_rule, log_file_rule, further_users_rule}
 use Rattle.nesl_words.specs.Shapes.{IsShaped}
 use Rattle.nesl_words.proofs.words.serve.Goals as goal
 
@@ -15,7 +15,8 @@ returns c =
     let has_connections = c.with_option-with_connections.ensures _ connections_rule c.connections.ensures.rule has_workers in
     let has_web = c.with_option-with_web.ensures _ web_rule c.web.ensures.rule has_connections in
     let has_web_host = c.with_option-with_web_host.ensures _ web_host_rule c.web_host.ensures.rule has_web in
-    let has_idle = c.with_option-with_idle.ensures _ idle_rule c.idle.ensures.rule has_web_host in
+    let has_lessons = c.with_option-with_lessons.ensures _ lessons_rule c.lessons.ensures.rule has_web_host in
+    let has_idle = c.with_option-with_idle.ensures _ idle_rule c.idle.ensures.rule has_lessons in
     let has_first_line = c.with_option-with_first_line.ensures _ first_line_rule c.first_line.ensures.rule has_idle in
     let has_log = c.with_option-with_log.ensures _ log_rule c.log.ensures.rule has_first_line in
     let has_stats = c.with_option-with_stats.ensures _ stats_rule c.stats.ensures.rule has_log in
@@ -23,11 +24,10 @@ returns c =
     let has_keys = c.with_option-with_keys.ensures _ keys_file_rule c.keys_file.ensures.rule has_keep in
     let has_header = c.with_option-with_header.ensures _ user_header_rule c.user_header.ensures.rule has_keys in
     let has_bind = c.with_option-with_bind.ensures _ bind_rule c.bind.ensures.rule has_header in
-    let has_line_work = c.with_option-with_line_work.ensures _ line_work_rule c.line_work.ensures.rule has_bind in
-    let has_session_work = c.with_option-with_session_work.ensures _ session_work_rule c.session_work.ensures.rule has_line_work in
-    let has_elements = c.with_option-with_elements.ensures _ elements_rule c.elements.ensures.rule has_session_work in
-    let has_lines = c.with_option-with_lines.ensures _ transcript_lines_rule c.transcript_lines.ensures.rule has_elements in
-    let has_bytes = c.with_option-with_bytes.ensures _ transcript_bytes_rule c.transcript_bytes.ensures.rule has_lines in
-    let has_users = c.with_option-with_users.ensures _ users_file_rule c.users_file.ensures.rule has_bytes in
+    let has_limits = c.with_limits-with_bounds.ensures _ has_bind in
+    let has_users = c.with_option-with_users.ensures _ users_file_rule c.users_file.ensures.rule has_limits in
     let has_check = c.with_option-with_check.ensures _ check_rule c.check.ensures.rule has_users in
-    c.with_option.ensures _ further_users_rule c.further_users.ensures.rule has_check
+    let has_control = c.with_option-with_control.ensures _ control_rule c.control_path.ensures.rule has_check in
+    let has_metrics = c.with_option-with_metrics.ensures _ metrics_rule c.metrics.ensures.rule has_control in
+    let has_log_file = c.with_option-with_log_file.ensures _ log_file_rule c.log_file.ensures.rule has_metrics in
+    c.with_option.ensures _ further_users_rule c.further_users.ensures.rule has_log_file

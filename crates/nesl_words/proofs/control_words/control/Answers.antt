@@ -1,0 +1,14 @@
+use Rattle.std.proofs.Common.{◌∙◌, ap, codes}
+use Rattle.clap.specs.Simple.{new_shape, shape_of_fields}
+use Rattle.nesl_words.specs.Rules.{path_rule, request_rule}
+use Rattle.nesl_words.specs.Shapes.{IsShaped}
+use Rattle.nesl_words.proofs.control_words.control.Goals as goal
+
+pub returns : goal.returns
+returns c =
+    let is_named : IsShaped (new_shape (codes "control")) c.after_help-named.result = (
+      ap shape_of_fields c.after_help-named.ensures ∙ ap shape_of_fields c.about.ensures ∙ ap (λ app. app.top) c.new.ensures.app,
+      ap (λ fields. fields.has_globals) c.after_help-named.ensures ∙ ap (λ fields. fields.has_globals) c.about.ensures ∙ c.new.ensures.local,
+    ) in
+    let has_path = c.with_option-with_path.ensures (new_shape (codes "control")) path_rule c.path.ensures.rule is_named in
+    c.with_option.ensures _ request_rule c.request.ensures.rule has_path
