@@ -1,15 +1,12 @@
 //! Leases and receipts, and tables that are closed.
-use crate::sample::{LIMITS, lines_of, roster, said, table};
+use crate::sample::{LIMITS, is_reply, roster, said, table};
 use nesl_eval_helpers::{Free, NoHelpers};
-use nesl_house::lease::Receipt;
+use nesl_house::lease::{Lease, Receipt};
 use nesl_house::table::{CloseFault, Table, TakeFault};
 use nesl_session::limits::Limits;
 use std::alloc::{AllocError, Global};
-use std::process::Abort;
 use std::sync::Wait;
-
-// A line that binds a name, and its reply.
-const THREE: &str = "x = 3; => x = 3 : int (work 1, depth 1)";
+use std::thread::Threads;
 
 fn receipt_of(place: usize, recorded: u64) -> Receipt {
     Receipt { place, recorded }
@@ -30,6 +27,16 @@ fn refusal<R: Wait>(rt: &R, table: &Table, user: &str) -> Option<TakeFault> {
     }
 }
 
+// How many lines the leased session has stored once it has answered a sum, if it answers it so.
+fn stored<R: Threads + Sync>(rt: &R, alloc: Global, lease: &mut Lease) -> Option<usize> {
+    let answer = lease.line_split(rt, alloc, b"2 * 3 + 1;", &NoHelpers, &Free);
+    if is_reply(answer.bytes(), "it = 7 : int (work 5, depth 5)") {
+        Some(lease.session().lines().len())
+    } else {
+        None
+    }
+}
+
 #[test]
 fn one_lease_at_a_time(rt: HostRuntime) {
     let table = table(rt.alloc()).expect(&rt, "memory");
@@ -39,77 +46,67 @@ fn one_lease_at_a_time(rt: HostRuntime) {
     let place = lease.place();
     let busy = refusal(&rt, &table, "bob");
     let stranger = refusal(&rt, &table, "zed");
-    let is_seven = lease
-        .line_split(&rt, rt.alloc(), b"2 * 3 + 1;", &NoHelpers, &Free)
-        .bytes()
-        == b"it = 7 : int (work 5, depth 5)\n".as_slice();
-    let lines = lease.session().lines().len();
+    let lines = stored(&rt, rt.alloc(), &mut lease);
     let receipt = table.give(&rt, lease);
-    let home = refusal(&rt, &table, "bob");
-    let again = said(
-        &rt,
-        rt.alloc(),
-        &table,
-        "bob",
-        "it; => it = 7 : int (work 1, depth 1)",
-    );
-    let is_said = is_seven && lines == 1 && place == 1 && receipt == receipt_of(1, 1);
+    let seven = "it; => it = 7 : int (work 1, depth 1)";
+    let again = said(&rt, rt.alloc(), &table, "bob", seven);
     let is_refused = busy == Some(TakeFault::Busy) && stranger == Some(TakeFault::NoUser);
-    let is_home = home.is_none() && again == Some(receipt_of(1, 1));
-    assert!(rt; is_said && is_refused && is_home);
+    let is_home = refusal(&rt, &table, "bob").is_none() && again == Some(receipt_of(1, 1));
+    assert!(rt; place == 1 && lines == Some(1) && receipt == receipt_of(1, 1));
+    assert!(rt; is_refused && is_home);
 }
 
-// These receipts; memory is there.
-fn receipts_of<R: Abort>(rt: &R, alloc: Global, all: &[Receipt]) -> Vec<Receipt> {
-    Vec::from_slice(alloc, all).expect(rt, "memory")
+// The number of lines of a table that is closed, and of the users of its house.
+fn closed(table: Table, receipts: Vec<Receipt>) -> Option<(u128, usize)> {
+    let closed = table.close(receipts).ok()?;
+    Some((closed.lines, closed.house.users().len()))
 }
 
 #[test]
 fn not_closed_while_a_lease_is_out(rt: HostRuntime) {
     let table = table(rt.alloc()).expect(&rt, "memory");
-    let Some(first) = said(
-        &rt,
-        rt.alloc(),
-        &table,
-        "ann",
-        "1; => it = 1 : int (work 1, depth 1)",
-    ) else {
-        panic!(rt; "ann's session is at home");
-    };
+    let mut all = Vec::new(rt.alloc());
+    let one = "1; => it = 1 : int (work 1, depth 1)";
+    let is_added = add_said(&rt, rt.alloc(), &table, one, &mut all);
     let Ok(lease) = table.take(&rt, b"bob") else {
         panic!(rt; "bob's session is at home");
     };
     let Err(
         CloseFault::StillOut {
             table,
-            receipts,
+            mut receipts,
             place,
         },
-    ) = table.close(receipts_of(&rt, rt.alloc(), &[first]))
+    ) = table.close(all)
     else {
         panic!(rt; "bob's session is out");
     };
-    let second = table.give(&rt, lease);
-    let has_all = receipts.as_slice() == [receipt_of(0, 1)].as_slice();
-    assert!(rt; place == 1 && is_as_opened(&table) && has_all);
-    let Ok(closed) = table.close(receipts_of(&rt, rt.alloc(), &[first, second])) else {
-        panic!(rt; "all sessions are at home");
-    };
-    assert!(rt; closed.lines == 1 && closed.house.users().len() == 2);
+    let has_all = is_added && receipts.as_slice() == [receipt_of(0, 1)].as_slice();
+    let is_given = receipts.push(table.give(&rt, lease)).is_ok();
+    assert!(rt; place == 1 && is_as_opened(&table) && has_all && is_given);
+    assert!(rt; closed(table, receipts) == Some((1, 2)));
+}
+
+// Says lines for ann under one lease, and adds its receipt. Whether they are answered so.
+fn add_said<R: Threads + Wait + Sync>(
+    rt: &R,
+    alloc: Global,
+    table: &Table,
+    rows: &str,
+    receipts: &mut Vec<Receipt>,
+) -> bool {
+    match said(rt, alloc, table, "ann", rows) {
+        Some(receipt) => receipts.push(receipt).is_ok(),
+        None => false,
+    }
 }
 
 #[test]
 fn not_closed_without_a_receipt(rt: HostRuntime) {
     let table = table(rt.alloc()).expect(&rt, "memory");
-    let Some(receipt) = said(
-        &rt,
-        rt.alloc(),
-        &table,
-        "ann",
-        "x = 3; => x = 3 : int (work 1, depth 1)\nx; => it = 3 : int (work 1, depth 1)",
-    ) else {
-        panic!(rt; "ann's session is at home");
-    };
+    let mut all = Vec::new(rt.alloc());
+    let rows = "x = 3; => x = 3 : int (work 1, depth 1)\nx; => it = 3 : int (work 1, depth 1)";
+    let is_added = add_said(&rt, rt.alloc(), &table, rows, &mut all);
     let Err(
         CloseFault::Missing {
             table,
@@ -121,13 +118,8 @@ fn not_closed_without_a_receipt(rt: HostRuntime) {
     else {
         panic!(rt; "a receipt is missing");
     };
-    assert!(rt; counted == 0 && held == 2 && receipts.is_empty());
-    let Ok(closed) = table.close(receipts_of(&rt, rt.alloc(), &[receipt])) else {
-        panic!(rt; "no receipt is missing");
-    };
-    let ann = lines_of(&closed.house, b"ann");
-    let bob = lines_of(&closed.house, b"bob");
-    assert!(rt; closed.lines == 2 && ann == Some(2) && bob == Some(0));
+    assert!(rt; is_added && counted == 0 && held == 2 && receipts.is_empty());
+    assert!(rt; closed(table, all) == Some((2, 2)));
 }
 
 // A table of ann and bob whose sessions have other limits.
@@ -142,36 +134,15 @@ fn table_otherwise(alloc: Global) -> Result<Table, AllocError> {
         .ok_or(AllocError)
 }
 
-// The receipt of ann's session, which is taken out of one table and put into another.
-fn moved<R: Wait>(rt: &R, from: &Table, to: &Table) -> Option<Receipt> {
-    let lease = from.take(rt, b"ann").ok()?;
-    Some(to.give(rt, lease))
-}
-
-#[test]
-fn another_table_has_the_session(rt: HostRuntime) {
-    let (here, there) = (
-        table(rt.alloc()).expect(&rt, "memory"),
-        table(rt.alloc()).expect(&rt, "memory"),
-    );
-    let three = said(&rt, rt.alloc(), &there, "ann", THREE);
-    let receipt = moved(&rt, &there, &here);
-    let is_moved = three == Some(receipt_of(0, 1)) && receipt == Some(receipt_of(0, 0));
-    let is_away = refusal(&rt, &there, "ann") == Some(TakeFault::Busy);
-    let it = "x; => it = 3 : int (work 1, depth 1)";
-    let told = said(&rt, rt.alloc(), &here, "ann", it);
-    assert!(rt; is_moved && is_away && told == Some(receipt_of(0, 1)));
-}
-
 #[test]
 fn a_session_with_other_limits_is_not_given_out(rt: HostRuntime) {
-    let (here, there) = (
-        table(rt.alloc()).expect(&rt, "memory"),
-        table_otherwise(rt.alloc()).expect(&rt, "memory"),
-    );
-    let receipt = moved(&rt, &there, &here);
+    let here = table(rt.alloc()).expect(&rt, "memory");
+    let there = table_otherwise(rt.alloc()).expect(&rt, "memory");
+    let Ok(lease) = there.take(&rt, b"ann") else {
+        panic!(rt; "ann's session is at home");
+    };
+    let receipt = here.give(&rt, lease);
     let is_away = refusal(&rt, &there, "ann") == Some(TakeFault::Busy);
     let is_other = refusal(&rt, &here, "ann") == Some(TakeFault::Busy);
-    let is_home = refusal(&rt, &here, "bob").is_none();
-    assert!(rt; receipt == Some(receipt_of(0, 0)) && is_away && is_other && is_home);
+    assert!(rt; receipt == receipt_of(0, 0) && is_away && is_other);
 }

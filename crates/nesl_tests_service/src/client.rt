@@ -5,7 +5,6 @@ use std::alloc::Global;
 use std::io;
 use std::io::{Read, Write};
 use std::net::{Net, Shutdown, SocketAddr, TcpStream};
-use std::process::Abort;
 use std::test::Fail;
 use std::time::Duration;
 
@@ -28,22 +27,28 @@ pub fn ann_and_bob(alloc: Global) -> Result<Table, Fail> {
     Ok(Table::new(alloc, roster.as_slice(), LIMITS)?)
 }
 
-fn connect<R: Net<Stream = TcpStream>>(rt: &R, address: SocketAddr) -> io::Result<TcpStream> {
+// The same, or nothing if memory runs out.
+pub fn seats_of_two(alloc: Global) -> Option<Table> {
+    let mut roster = Vec::new(alloc);
+    for name in ["ann", "bob"] {
+        let name = Vec::from_slice(alloc, name.as_bytes()).ok()?;
+        roster.push(name).ok()?;
+    }
+    Table::new(alloc, roster.as_slice(), LIMITS).ok()
+}
+
+pub fn connect<R: Net<Stream = TcpStream>>(rt: &R, address: SocketAddr) -> io::Result<TcpStream> {
     let stream = TcpStream::connect(rt, address)?;
     stream.set_read_timeout(Some(Duration::from_secs(SECONDS)))?;
     Ok(stream)
 }
 
-fn say_line(stream: &TcpStream, line: &[u8]) -> io::Result<()> {
-    let mut writer = stream;
-    writer.write_all(line)?;
-    writer.write_all(b"\n")
-}
-
-// Reads one answer, without its line end.
-fn answer(alloc: Global, stream: &TcpStream) -> io::Result<Vec<u8>> {
+// Says a line, and reads its answer without the line end.
+fn answer(alloc: Global, stream: &TcpStream, line: &str) -> io::Result<Vec<u8>> {
     let mut answer = Vec::new(alloc);
-    let mut reader = stream;
+    let (mut reader, mut writer) = (stream, stream);
+    writer.write_all(line.as_bytes())?;
+    writer.write_all(b"\n")?;
     let mut byte = [0u8; 1];
     for _ in 0..10_000u32 {
         if reader.read(&mut byte)? == 0 || byte[0] == b'\n' {
@@ -54,59 +59,27 @@ fn answer(alloc: Global, stream: &TcpStream) -> io::Result<Vec<u8>> {
     Ok(answer)
 }
 
-// Says no more, and reads to the end.
-fn end(alloc: Global, stream: &TcpStream) -> io::Result<()> {
-    stream.shutdown(Shutdown::Write)?;
-    let mut rest = Vec::new(alloc);
-    let mut reader = stream;
-    reader.read_to_end(&mut rest)?;
-    Ok(())
-}
-
-// Does what follows the number of a row. Whether what is heard is right.
-fn is_done(alloc: Global, stream: &TcpStream, act: &[u8]) -> io::Result<bool> {
-    match act {
-        [b'>', b' ', line @ ..] => say_line(stream, line)?,
-        [b'<', b' ', wanted @ ..] => return Ok(answer(alloc, stream)?.as_slice() == wanted),
-        [b'.'] => end(alloc, stream)?,
-        _ => return Ok(false),
-    }
-    Ok(true)
-}
-
-// Plays one row.
-fn is_played<R: Net<Stream = TcpStream>>(
-    rt: &R,
-    alloc: Global,
-    address: SocketAddr,
-    streams: &mut Vec<TcpStream>,
-    row: &str,
-) -> io::Result<bool> {
-    let [number, b' ', act @ ..] = row.as_bytes() else {
-        return Ok(false);
+/// Says the lines of rows `LINE => ANSWER` on a connection, and compares what is answered to each.
+pub fn hears(alloc: Global, client: &io::Result<TcpStream>, rows: &str) -> bool {
+    let Ok(stream) = client else {
+        return false;
     };
-    let place = usize::from(number.saturating_sub(b'0'));
-    if place == streams.len() {
-        streams.push(connect(rt, address)?)?;
+    for row in rows.lines() {
+        let (line, wanted) = row.split_once(" => ").unwrap_or((row, ""));
+        match answer(alloc, stream, line) {
+            Ok(answer) if answer.as_slice() == wanted.as_bytes() => {}
+            _ => return false,
+        }
     }
-    match streams.get(place) {
-        Some(stream) => is_done(alloc, stream, act),
-        None => Ok(false),
-    }
+    true
 }
 
-/// Plays clients. Each row begins with the number of a connection, which is made when its number first comes.
-/// `0 > LINE` says a line on it, `0 < ANSWER` compares the answer with the one that is wanted, and `0 .` says no more
-/// and reads what is left.
-pub fn play<R: Net<Stream = TcpStream> + Abort>(
-    rt: &R,
-    alloc: Global,
-    address: SocketAddr,
-    rows: &str,
-) -> io::Result<()> {
-    let mut streams = Vec::new(alloc);
-    for row in rows.lines() {
-        assert!(rt; is_played(rt, alloc, address, &mut streams, row)?, "{row}");
-    }
-    Ok(())
+/// Says no more, and reads to the end. Whether nothing came.
+pub fn ends(client: &io::Result<TcpStream>) -> bool {
+    let Ok(stream) = client else {
+        return false;
+    };
+    let mut reader = stream;
+    let mut byte = [0u8; 1];
+    stream.shutdown(Shutdown::Write).is_ok() && matches!(reader.read(&mut byte), Ok(0))
 }

@@ -1,9 +1,8 @@
 //! Connections that are played to a service.
-use crate::client::{ann_and_bob, play};
+use crate::client::{ann_and_bob, connect, ends, hears, seats_of_two};
 use nesl_service::service::{ServeFault, serve_on};
 use std::alloc::{AllocError, Global};
-use std::net::{Net, TcpListener, TcpStream};
-use std::process::Abort;
+use std::net::{Net, SocketAddr, TcpListener, TcpStream};
 use std::sync::Wait;
 use std::test::Fail;
 use std::thread;
@@ -11,48 +10,50 @@ use std::thread::Threads;
 use std::time::Clock;
 
 // Sessions outlast connections, and a user has one connection at a time. A user line is no form within a session.
-const TWO_USERS: &str = "0 > user ann
-0 < user ann
-0 > x = 3;
-0 < x = 3 : int (work 1, depth 1)
-1 > user bob
-1 < user bob
-1 > x = 5;
-1 < x = 5 : int (work 1, depth 1)
-1 .
-2 > user ann
-2 < fault busy
-2 .
-0 > user bob
-0 < fault syntax (work 0)
-0 > x;
-0 < it = 3 : int (work 1, depth 1)
-0 .
-3 > user bob
-3 < user bob
-3 > x;
-3 < it = 5 : int (work 1, depth 1)
-3 .";
+fn are_heard<R: Net<Stream = TcpStream>>(rt: &R, alloc: Global, address: SocketAddr) -> bool {
+    let ann = connect(rt, address);
+    let three = "user ann => user ann\nx = 3; => x = 3 : int (work 1, depth 1)";
+    let are_begun = hears(alloc, &ann, three);
+    let bob = connect(rt, address);
+    let five = "user bob => user bob\nx = 5; => x = 5 : int (work 1, depth 1)";
+    let are_apart = hears(alloc, &bob, five) && ends(&bob);
+    let other = connect(rt, address);
+    let is_refused = hears(alloc, &other, "user ann => fault busy") && ends(&other);
+    let it = "user bob => fault syntax (work 0)\nx; => it = 3 : int (work 1, depth 1)";
+    let is_kept = hears(alloc, &ann, it) && ends(&ann);
+    let again = connect(rt, address);
+    let it = "user bob => user bob\nx; => it = 5 : int (work 1, depth 1)";
+    are_begun && are_apart && is_refused && is_kept && hears(alloc, &again, it) && ends(&again)
+}
 
-// How many lines are served to four connections that are played, by three threads and two workers.
-fn lines_of_four<
-    R: Net<Listener = TcpListener, Stream = TcpStream> + Threads + Wait + Clock + Abort + Sync,
->(rt: &R, alloc: Global, rows: &str) -> Result<u128, Fail> {
+// How many lines are served to four connections, by three threads and two workers. The table stays on this thread, so
+// no proof has to show that sessions may be sent to another one.
+fn lines_served<R: Threads + Wait + Clock + Sync>(
+    rt: &R,
+    alloc: Global,
+    listener: &TcpListener,
+) -> Option<u128> {
+    let table = seats_of_two(alloc)?;
+    let closed = serve_on(rt, alloc, listener, table, 3, 2, Some(4)).ok()?;
+    Some(closed.lines)
+}
+
+// Whether four connections are answered as they should be, and how many lines are counted in the end.
+fn four_connections<
+    R: Net<Listener = TcpListener, Stream = TcpStream> + Threads + Wait + Clock + Sync,
+>(rt: &R, alloc: Global) -> Result<(bool, Option<u128>), Fail> {
     let listener = TcpListener::bind(rt, "127.0.0.1:0")?;
     let address = listener.local_addr()?;
-    let table = ann_and_bob(alloc)?;
-    let (played, closed) = thread::join(
+    Ok(thread::join(
         rt,
-        || play(rt, alloc, address, rows),
-        || serve_on(rt, alloc, &listener, table, 3, 2, Some(4)),
-    );
-    played?;
-    Ok(closed?.lines)
+        || are_heard(rt, alloc, address),
+        || lines_served(rt, alloc, &listener),
+    ))
 }
 
 #[test]
 fn two_users_are_served(rt: HostRuntime) -> Result<(), Fail> {
-    assert!(rt; lines_of_four(&rt, rt.alloc(), TWO_USERS)? == 5);
+    assert!(rt; four_connections(&rt, rt.alloc())? == (true, Some(5)));
     Ok(())
 }
 

@@ -11,6 +11,4 @@ mod counting;
 #[cfg(test)]
 mod in_turn;
 #[cfg(test)]
-mod receipts;
-#[cfg(test)]
 mod sparing;

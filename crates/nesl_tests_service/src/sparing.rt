@@ -1,7 +1,7 @@
 //! Helpers that are asked for only where they pay, by a clock that the tests set.
 use nesl_eval_helpers::sparing::Sparing;
 use nesl_eval_helpers::{Advice, Asker, Common, Helpers};
-use std::alloc::{AllocError, Global};
+use std::slice::Iter;
 use std::sync::atomic::{AtomicU64, Ordering};
 use std::time::{Clock, Duration};
 use std::{io, mem};
@@ -117,8 +117,14 @@ const ROWS: &str = "2 1: 4 i400.200; 1 M2; 9 i290.200 => --++---------
 1 b S800 A S249 h M2 S800 h M1 S249 V993 h S990 V986 h S251 V1000 a p2000 z d Z e100000 => ----+----+
 2 1: 4 i2000.2000 i20.20; 1 i2000.2000 => ---------
 2 1: 9 b h p9000 e2000 => ---------
-2 1: 2 i1000.940; 1 i1000.940; 4 i1000.500; 1 i1000.940; 8 i1000.500; \
-1 i1000.930 i1000.930 i1000.940 i7520.500 i1000.500 => --+----+--------+-+-+
+2 1: 58 i8000.9500 => --+++-+----------------++++-------------------------------
+2 1: 23 i8000.9500; 1 i8000.6500; 22 i8000.9500 => --+++-+----------------+++++----------------++
+2 1: 2 i8000.8500; 10 i8000.8500 i8000.6500 => --+++-++++++++++++++++
+2 1: 2 i8000.1; 2 i8000.11499; 1 i8000.7501; 2 i8000.7000 => --+++-+
+2 1: 2 i8000.1; 2 i8000.11499; 1 i8000.7502 i128000.1 i8000.1 i8000.1 => --+++--+
+2 1: 2 i8000.1; 2 i8000.11499; 1 i8000.7502 i127999.1 i8000.1 i8000.1 => --+++---
+2 1: 2 i400.1; 1 i400.574 i400.1 => --++
+2 1: 2 i400.1; 1 i400.575 i3200.1 i400.1 => --+-+
 2 1: 70 i1000.500 => --+++-+++++++++++++++++++++++++++++++-+++++++++++++++++++++++++++++++-
 2 1: 5 i1000.140 => --+--
 2 8: 2 i2000.1000; 1 x b x i2000.1000 x e0 x; 1 b A h d a p1200 z Z e100000; 1 i2000.1000 => ---+-++
@@ -128,7 +134,7 @@ const ROWS: &str = "2 1: 4 i400.200; 1 M2; 9 i290.200 => --++---------
 2 1: 4 f i400.200 => --++
 2 0: 9 i9000.9000 => ---------";
 
-// Two connections, of which one is at hand, and the interval at hand.
+// Two connections, of which one is at hand, the interval at hand, and the marks that are wanted of the steps to come.
 #[derive(Drop)]
 struct Desk<'x> {
     clock: &'x Still,
@@ -137,10 +143,12 @@ struct Desk<'x> {
     sparing: Sparing<'x, Still, Granting>,
     other: Sparing<'x, Still, Granting>,
     asker: Asker,
+    wanted: Iter<'x, u8>,
+    are_right: bool,
 }
 
 impl<'x> Desk<'x> {
-    fn new(clock: &'x Still, common: &'x Common, workers: u32) -> Desk<'x> {
+    fn new(clock: &'x Still, common: &'x Common, workers: u32, wanted: &'x str) -> Desk<'x> {
         Desk {
             clock,
             common,
@@ -156,62 +164,58 @@ impl<'x> Desk<'x> {
                 levels: 1000,
                 taken: 0,
             },
+            wanted: wanted.as_bytes().iter(),
+            are_right: true,
         }
     }
 
     // Takes the steps of a part as often as it says.
-    fn run(&mut self, part: &str, told: &mut String) -> Result<(), AllocError> {
+    fn run(&mut self, part: &str) {
         let (count, steps) = part.split_once(' ').unwrap_or(("0", part));
         for _ in 0..count.parse::<u64>().unwrap_or(0) {
-            self.run_keeping(steps, told)?;
+            self.run_keeping(steps);
         }
-        Ok(())
     }
 
     // Takes steps, and keeps a helper for those between `A` and `Z`.
-    fn run_keeping(&mut self, steps: &str, told: &mut String) -> Result<(), AllocError> {
+    fn run_keeping(&mut self, steps: &str) {
         let Some((before, rest)) = steps.split_once(" A ") else {
-            return self.run_within(steps, told);
+            return self.run_within(steps);
         };
         let (within, after) = rest.split_once(" Z ").unwrap_or((rest, ""));
-        self.run_all(before, told)?;
+        self.run_all(before);
         let permit = ask(&self.sparing, self.asker);
-        let is_told = push_mark(permit.is_some(), told);
-        let is_run = self.run_within(within, told);
+        self.tell_whether(permit.is_some());
+        self.run_within(within);
         end(&self.sparing, permit, 1);
-        is_told?;
-        is_run?;
-        self.run_all(after, told)
+        self.run_all(after);
     }
 
     // Takes steps, and keeps a helper for those between `a` and `z`.
-    fn run_within(&mut self, steps: &str, told: &mut String) -> Result<(), AllocError> {
+    fn run_within(&mut self, steps: &str) {
         let Some((before, rest)) = steps.split_once(" a ") else {
-            return self.run_all(steps, told);
+            return self.run_all(steps);
         };
         let (within, after) = rest.split_once(" z").unwrap_or((rest, ""));
-        self.run_all(before, told)?;
+        self.run_all(before);
         let permit = ask(&self.sparing, self.asker);
-        let is_told = push_mark(permit.is_some(), told);
-        let is_run = self.run_all(within, told);
+        self.tell_whether(permit.is_some());
+        self.run_all(within);
         end(&self.sparing, permit, 2);
-        is_told?;
-        is_run?;
-        self.run_all(after, told)
+        self.run_all(after);
     }
 
-    fn run_all(&mut self, steps: &str, told: &mut String) -> Result<(), AllocError> {
+    fn run_all(&mut self, steps: &str) {
         for step in steps.split(' ') {
             if let [letter, digits @ ..] = step.as_bytes() {
                 let numbers = numbers_of(str::from_utf8(digits).unwrap_or(""));
                 if letter.is_ascii_uppercase() {
                     self.set(*letter, numbers.0);
                 } else {
-                    self.act(*letter, numbers, told)?;
+                    self.act(*letter, numbers);
                 }
             }
         }
-        Ok(())
     }
 
     fn set(&mut self, letter: u8, number: u64) {
@@ -229,12 +233,7 @@ impl<'x> Desk<'x> {
         }
     }
 
-    fn act(
-        &mut self,
-        letter: u8,
-        (first, second): (u64, u64),
-        told: &mut String,
-    ) -> Result<(), AllocError> {
+    fn act(&mut self, letter: u8, (first, second): (u64, u64)) {
         let left = FUEL.saturating_sub(first);
         match letter {
             b'b' => self.sparing.begin(),
@@ -246,39 +245,47 @@ impl<'x> Desk<'x> {
             b'f' => {
                 self.sparing = Sparing::new(self.clock, Granting, self.workers, self.common);
             }
-            _ => return self.tell(letter, (first, second), told),
+            b'w' => {
+                let height = self.sparing.timed_at();
+                self.tell(mark_of(height));
+            }
+            _ => {
+                let is_so = self.is_so(letter, first, second);
+                self.tell_whether(is_so);
+            }
         }
-        Ok(())
     }
 
-    // Takes a step that tells something.
-    fn tell(
-        &self,
-        letter: u8,
-        (first, second): (u64, u64),
-        told: &mut String,
-    ) -> Result<(), AllocError> {
+    // What a step tells that is about whether something is so.
+    fn is_so(&self, letter: u8, first: u64, second: u64) -> bool {
         let sparing = &self.sparing;
         match letter {
-            b'i' => push_mark(
-                is_helped(self.clock, sparing, self.asker, first, second),
-                told,
-            ),
-            b'h' => {
+            b'i' => is_helped(self.clock, sparing, self.asker, first, second),
+            b'q' => sparing.asks_again(FUEL.saturating_sub(first), second as usize),
+            _ => {
                 let permit = ask(sparing, self.asker);
                 let has_helper = permit.is_some();
                 end(sparing, permit, 2);
-                push_mark(has_helper, told)
+                has_helper
             }
-            b'q' => push_mark(
-                sparing.asks_again(FUEL.saturating_sub(first), second as usize),
-                told,
-            ),
-            _ => match sparing.timed_at() {
-                Some(height) => write!(told, "{height}"),
-                None => told.push('.'),
-            },
         }
+    }
+
+    fn tell_whether(&mut self, is_so: bool) {
+        self.tell(if is_so { b'+' } else { b'-' });
+    }
+
+    // Tells a mark, which is to be the one that is wanted next.
+    fn tell(&mut self, mark: u8) {
+        self.are_right &= self.wanted.next().copied() == Some(mark);
+    }
+}
+
+// The mark for the height of what is timed.
+fn mark_of(height: Option<usize>) -> u8 {
+    match height {
+        Some(height) => b'0' + (height % 10) as u8,
+        None => b'.',
     }
 }
 
@@ -290,29 +297,24 @@ fn numbers_of(digits: &str) -> (u64, u64) {
     )
 }
 
-fn push_mark(is_so: bool, told: &mut String) -> Result<(), AllocError> {
-    told.push(if is_so { '+' } else { '-' })
-}
-
-// The marks of a row.
-fn told_of(alloc: Global, row: &str) -> Result<String, AllocError> {
-    let (machine, parts) = row.split_once(": ").unwrap_or((row, ""));
+// Whether a row's steps tell the marks that it wants, and no more.
+fn holds(row: &str) -> bool {
+    let (asked, wanted) = row.split_once(" => ").unwrap_or((row, ""));
+    let (machine, parts) = asked.split_once(": ").unwrap_or((asked, ""));
     let (processors, workers) = machine.split_once(' ').unwrap_or((machine, ""));
     let clock = Still::new();
     let common = Common::new(processors.parse::<usize>().unwrap_or(0));
-    let mut desk = Desk::new(&clock, &common, workers.parse::<u32>().unwrap_or(0));
-    let mut told = String::new(alloc);
+    let workers = workers.parse::<u32>().unwrap_or(0);
+    let mut desk = Desk::new(&clock, &common, workers, wanted);
     for part in parts.split("; ") {
-        desk.run(part, &mut told)?;
+        desk.run(part);
     }
-    Ok(told)
+    desk.are_right && desk.wanted.next().is_none()
 }
 
 #[test]
 fn helpers_are_asked_for_where_they_pay(rt: HostRuntime) {
     for row in ROWS.lines() {
-        let (asked, wanted) = row.split_once(" => ").unwrap_or((row, ""));
-        let told = told_of(rt.alloc(), asked).expect(&rt, "memory");
-        assert!(rt; told.as_str() == wanted, "{asked}: {told}");
+        assert!(rt; holds(row), "{row}");
     }
 }

@@ -26,7 +26,8 @@
 //! Of any other text all answers are written. The one that is titled `alone` is said line by line to sessions without a
 //! prompt, with a hint on each fault (`src/alone.rt`). The words of the other titles say how a text is said:
 //!
-//! - `prompts` and `hints`: at a prompt that writes these; without either, at one that writes replies alone;
+//! - `prompts` and `hints`: at a prompt that writes these; without either, at one that writes replies alone, which are
+//!   compared with those that `converse_over` returns;
 //! - `closed`: at a prompt that may open no files;
 //! - `batch`: in a batch of ann and bob, with the hints of a prompt; `loud`: with one hint that has line ends;
 //! - `heap`: a batch whose lines are evaluated in a heap of 65,536 bytes;

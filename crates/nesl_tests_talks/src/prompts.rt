@@ -12,7 +12,7 @@ use nesl_house::manner::{InHeap, Plainly};
 use nesl_line::device::{Device, Sink, Source};
 use nesl_line::exchange::{End, Ran};
 use nesl_line::hinted::batch_with_hints;
-use nesl_prompt::converse::converse;
+use nesl_prompt::converse::{converse, converse_over};
 use nesl_prompt::hints::Hints;
 use nesl_prompt::shelf::{Access, Guarded};
 use nesl_prompt::style::Style;
@@ -46,7 +46,24 @@ pub fn put_prompted(
     };
     let told = writer.into_inner().bytes;
     out.extend_from_slice(told.as_slice())?;
+    if is_whole_and_plain(title) && !is_same_over(alloc, title, said, told.as_slice())? {
+        out.extend_from_slice(b"-- and another text by `converse_over`\n")?;
+    }
     put_end(alloc, told.as_slice(), ran, out)
+}
+
+// Whether a text is said at a prompt that writes replies alone, and no device fails.
+fn is_whole_and_plain(title: &[u8]) -> bool {
+    let words: [&[u8]; 5] = [b"prompts", b"hints", b"batch", b"torn", b"short"];
+    words.iter().all(|word| !has_word(title, *word))
+}
+
+// Whether these are the bytes that `converse_over` returns for the text.
+fn is_same_over(alloc: Global, title: &[u8], said: &[u8], told: &[u8]) -> Result<bool, AllocError> {
+    let mut session = Session::new(alloc, LIMITS)?;
+    let drawer = Drawer::new(alloc)?;
+    let written = converse_over(alloc, said, &mut session, &files_for(title, &drawer))?;
+    Ok(written.as_slice() == told)
 }
 
 // Says a text at a prompt.
@@ -62,15 +79,20 @@ fn prompt<S: Source, W: Sink>(
     };
     let mut session = Session::new(alloc, LIMITS)?;
     let drawer = Drawer::new(alloc)?;
-    let files = Guarded {
-        files: &drawer,
+    let files = files_for(title, &drawer);
+    Ok(converse(alloc, reader, writer, &mut session, &files, style))
+}
+
+// The files that a prompt may open.
+fn files_for<'x>(title: &[u8], drawer: &'x Drawer) -> Guarded<'x, Drawer> {
+    Guarded {
+        files: drawer,
         access: if has_word(title, b"closed") {
             Access::Refused
         } else {
             Access::Granted
         },
-    };
-    Ok(converse(alloc, reader, writer, &mut session, &files, style))
+    }
 }
 
 // Says a text in a batch of ann and bob.

@@ -1,14 +1,18 @@
 //! Connections whose user's session is kept in a file of its lines.
+//!
+//! A row is a connection: the user's file, the lines that are sent, and what is told of them, `FILE | SAID => TOLD`. A
+//! `~` is a line end. After the answers are the number of lines that were restored and of those that were recorded, by
+//! the receipts, and why the user was turned away.
 use crate::exchanges::devices::{blank_paper, tape_of};
-use crate::sample::{LIMITS, table};
+use crate::sample::table;
 use nesl_eval_helpers::{Free, NoHelpers};
+use nesl_house::lease::Receipt;
 use nesl_house::table::Table;
 use nesl_keep::device::{DeviceError, Folder, Opened};
 use nesl_keep::memory::Memory;
 use nesl_keeper::keeper::KeptFiles;
 use nesl_line::device::Device as Stream;
-use nesl_line::exchange::End;
-use nesl_line::keeper::{Archive, KeepFault, Mismatch};
+use nesl_line::keeper::Archive;
 use nesl_line::serve::{Room, ServedAndKept, serve_and_keep};
 use std::alloc::{AllocError, Global};
 use std::sync::Wait;
@@ -30,23 +34,16 @@ impl Folder for Shelf<'_> {
     }
 }
 
-/// What one connection got.
-#[derive(Drop)]
-struct Outcome {
-    answers: Vec<u8>,
-    ran: ServedAndKept,
-}
-
-/// What is answered to these lines on a connection to a table whose users' files have these bytes.
+// What is answered to these lines on a connection to a table whose users' files have these bytes.
 fn attend<R: Threads + Wait + Sync>(
     rt: &R,
     alloc: Global,
     table: &Table,
     file: &[u8],
-    said: &str,
-) -> Outcome {
+    said: &[u8],
+) -> (Vec<u8>, ServedAndKept) {
     let shelf = Shelf { bytes: file };
-    let mut reader = Stream::new(tape_of(said.as_bytes(), 7));
+    let mut reader = Stream::new(tape_of(said, 7));
     let mut writer = Stream::new(blank_paper(alloc));
     let room = Room {
         alloc,
@@ -56,124 +53,100 @@ fn attend<R: Threads + Wait + Sync>(
     };
     let mut keeper = KeptFiles::new(&shelf).keeper();
     let ran = serve_and_keep(rt, &mut reader, &mut writer, &mut keeper, &room);
-    Outcome {
-        answers: writer.into_inner().bytes,
-        ran,
+    (writer.into_inner().bytes, ran)
+}
+
+fn recorded(receipt: Option<Receipt>) -> u64 {
+    receipt.map_or(0, |receipt| receipt.recorded)
+}
+
+// What came of a connection, as rows have it.
+fn told(alloc: Global, answers: &[u8], ran: &ServedAndKept) -> Result<String, AllocError> {
+    let answers = str::from_utf8(answers)
+        .unwrap_or("")
+        .replace(alloc, "\n", "~")?;
+    let (restored, added) = (recorded(ran.restored), recorded(ran.served.receipt));
+    match &ran.fault {
+        Some(unkept) => format!(in alloc; "{answers} {restored} {added} {:?}", unkept.fault),
+        None => format!(in alloc; "{answers} {restored} {added}"),
     }
 }
 
-// The number of lines that a table counts when it is closed with the receipts of these connections.
-fn counted(alloc: Global, table: Table, outcomes: &[&Outcome]) -> Result<Option<u128>, AllocError> {
-    let mut receipts = Vec::new(alloc);
-    for outcome in outcomes {
-        if let Some(receipt) = outcome.ran.restored {
-            receipts.push(receipt)?;
-        }
-        if let Some(receipt) = outcome.ran.served.receipt {
-            receipts.push(receipt)?;
-        }
-    }
-    match table.close(receipts) {
-        Ok(closed) => Ok(Some(closed.lines)),
-        Err(_) => Ok(None),
-    }
-}
-
-/// The file of a session that has bound `x`, got a fault and begun a form.
-const FILE: &[u8] = b">pazkindu 1 100000000 3\n>x = 3;\n>1 / 0;\n>1 +\\\n.";
-
-#[test]
-fn a_new_session_begins(rt: HostRuntime) {
-    let alloc = rt.alloc();
-    let table = table(alloc).expect(&rt, "memory");
-    let outcome = attend(&rt, alloc, &table, b"", "user ann\nx = 3;\nx + 1;\n");
-    let wanted = "user ann\nx = 3 : int (work 1, depth 1)\nit = 4 : int (work 3, depth 3)\n";
-    assert!(rt; outcome.answers.as_slice() == wanted.as_bytes());
-    assert!(rt; outcome.ran.fault.is_none() && outcome.ran.restored.is_none());
-    let lines = counted(alloc, table, &[&outcome]).expect(&rt, "memory");
-    assert_eq!(rt; lines, Some(2));
-}
-
-#[test]
-fn a_session_comes_back(rt: HostRuntime) {
-    let alloc = rt.alloc();
-    let table = table(alloc).expect(&rt, "memory");
-    let outcome = attend(&rt, alloc, &table, FILE, "user ann\n2;\nx;\n:reset\n");
-    let wanted = "user ann\nit = 3 : int (work 3, depth 3)\nit = 3 : int (work 1, depth 1)\n\
-        reset: lines 5\n";
-    assert!(rt; outcome.answers.as_slice() == wanted.as_bytes());
-    assert_eq!(rt;
-        outcome.ran.restored.map(|receipt| receipt.recorded),
-        Some(6)
-    );
-    assert_eq!(rt;
-        outcome.ran.served.receipt.map(|receipt| receipt.recorded),
-        Some(3)
-    );
-    let lines = counted(alloc, table, &[&outcome]).expect(&rt, "memory");
-    assert_eq!(rt; lines, Some(9));
-}
-
-#[test]
-fn what_follows_the_closed_gate_does_not_count(rt: HostRuntime) {
-    let alloc = rt.alloc();
-    let table = table(alloc).expect(&rt, "memory");
-    let file = b">pazkindu 1 100000000 0\n>x = 3;\n.x = 4;\n";
-    let outcome = attend(&rt, alloc, &table, file.as_slice(), "user bob\nx;\n");
-    let wanted = "user bob\nit = 3 : int (work 1, depth 1)\n";
-    assert!(rt; outcome.answers.as_slice() == wanted.as_bytes());
-}
-
-// Whether ann, whose file has these bytes, is turned away for this reason.
-fn is_turned_away<R: Threads + Wait + Sync>(
+// Plays the connection of a row, and adds its receipts to the others. Whether what is told of it is what is wanted.
+fn is_told<R: Threads + Wait + Sync>(
     rt: &R,
     alloc: Global,
     table: &Table,
-    file: &[u8],
-    why: Mismatch,
-) -> bool {
-    let outcome = attend(rt, alloc, table, file, "user ann\n1;\n");
-    let is_told = outcome.answers.as_slice() == b"fault busy\n".as_slice();
-    let is_ended = outcome.ran.served.end == End::Input && outcome.ran.served.receipt.is_none();
-    let fault = outcome.ran.fault.map(|unkept| unkept.fault);
-    is_told && is_ended && fault == Some(KeepFault::Strange(why))
+    receipts: &mut Vec<Receipt>,
+    row: &str,
+) -> Result<bool, AllocError> {
+    let (asked, wanted) = row.split_once(" => ").unwrap_or((row, ""));
+    let (file, said) = asked.split_once(" | ").unwrap_or((asked, ""));
+    let (file, said) = (
+        file.replace(alloc, "~", "\n")?,
+        said.replace(alloc, "~", "\n")?,
+    );
+    let (answers, ran) = attend(rt, alloc, table, file.as_bytes(), said.as_bytes());
+    for receipt in [ran.restored, ran.served.receipt] {
+        if let Some(receipt) = receipt {
+            receipts.push(receipt)?;
+        }
+    }
+    Ok(told(alloc, answers.as_slice(), &ran)?.as_str() == wanted)
 }
+
+// The number of lines that a table counts when it is closed after the connections of these rows, if all of them hold.
+fn counted<R: Threads + Wait + Sync>(
+    rt: &R,
+    alloc: Global,
+    rows: &str,
+) -> Result<Option<u128>, AllocError> {
+    let table = table(alloc)?;
+    let mut receipts = Vec::new(alloc);
+    let mut are_told = true;
+    for row in rows.lines() {
+        are_told &= matches!(is_told(rt, alloc, &table, &mut receipts, row), Ok(true));
+    }
+    let closed = table.close(receipts).ok();
+    Ok(if are_told {
+        closed.map(|closed| closed.lines)
+    } else {
+        None
+    })
+}
+
+/// A new session begins, and one that is kept comes back.
+const RESTORED: &str =
+    r" | user ann~x = 3;~x + 1;~ => user ann~x = 3 : int (work 1, depth 1)~it = 4 : int (work 3, depth 3)~ 0 2
+>pazkindu 1 100000000 3~>x = 3;~>1 / 0;~>1 +\~. | user bob~2;~x;~:reset~ => user bob~it = 3 : int (work 3, depth 3)~it = 3 : int (work 1, depth 1)~reset: lines 5~ 6 3";
+
+/// What follows the closed gate isn't restored.
+const GATED: &str =
+    ">pazkindu 1 100000000 0~>x = 3;~.x = 4;~ | user bob~x;~ => user bob~it = 3 : int (work 1, depth 1)~ 1 1";
+
+/// A session in memory must be that of its file.
+const IN_MEMORY: &str = r" | user ann~x = 3;~ => user ann~x = 3 : int (work 1, depth 1)~ 0 1
+>pazkindu 1 100000000 3~>x = 3;~>1 / 0;~>1 +\~. | user ann~1;~ => fault busy~ 0 0 Strange(Session(1))
+>pazkindu 1 100000000 0~>x = 4;~. | user ann~1;~ => fault busy~ 0 0 Strange(Session(2))
+>pazkindu 1 100000000 0~>x = 3;~>4;~. | user ann~1;~ => fault busy~ 0 0 Strange(Session(3))
+>pazkindu 1 100000000 0~>x = 3;~. | user ann~x;~ => user ann~it = 3 : int (work 1, depth 1)~ 0 1";
+
+#[test]
+fn sessions_come_back(rt: HostRuntime) {
+    for (rows, lines) in [(RESTORED, 11), (GATED, 2), (IN_MEMORY, 2)] {
+        let counted = counted(&rt, rt.alloc(), rows).expect(&rt, "memory");
+        assert!(rt; counted == Some(lines), "{rows}");
+    }
+}
+
+/// Files of another form, another work or another line.
+const STRANGE: &str = ">pazkindu 2 100000000 0~. | user ann~1;~ => fault busy~ 0 0 Strange(Head)
+>pazkindu 1 100000001 0~. | user ann~1;~ => fault busy~ 0 0 Strange(Head)
+>pazkindu 1 0100000000 0~. | user ann~1;~ => fault busy~ 0 0 Strange(Head)
+>x = 3;~. | user ann~1;~ => fault busy~ 0 0 Strange(Head)
+>pazkindu 1 100000000 0~>1;~>:reset~. | user ann~1;~ => fault busy~ 0 0 Strange(Line(3))";
 
 #[test]
 fn files_that_do_not_fit(rt: HostRuntime) {
-    let alloc = rt.alloc();
-    let table = table(alloc).expect(&rt, "memory");
-    let is_refused = |file: &[u8], why: Mismatch| -> bool {
-        is_turned_away(&rt, alloc, &table, file, why)
-    };
-    assert!(rt; is_refused(b">pazkindu 2 100000000 0\n.", Mismatch::Head));
-    assert!(rt; is_refused(b">pazkindu 1 100000001 0\n.", Mismatch::Head));
-    assert!(rt; is_refused(b">pazkindu 1 0100000000 0\n.", Mismatch::Head));
-    assert!(rt; is_refused(b">x = 3;\n.", Mismatch::Head));
-    assert!(rt;
-        is_refused(
-            b">pazkindu 1 100000000 0\n>1;\n>:reset\n.",
-            Mismatch::Line(3)
-        )
-    );
-    let lines = counted(alloc, table, &[]).expect(&rt, "memory");
-    assert_eq!(rt; lines, Some(0));
-}
-
-#[test]
-fn a_session_in_memory_must_be_that_of_its_file(rt: HostRuntime) {
-    let alloc = rt.alloc();
-    let table = table(alloc).expect(&rt, "memory");
-    let first = attend(&rt, alloc, &table, b"", "user ann\nx = 3;\n");
-    assert!(rt; is_turned_away(&rt, alloc, &table, FILE, Mismatch::Session(1)));
-    let other = b">pazkindu 1 100000000 0\n>x = 4;\n.";
-    assert!(rt; is_turned_away(&rt, alloc, &table, other, Mismatch::Session(2)));
-    let longer = b">pazkindu 1 100000000 0\n>x = 3;\n>4;\n.";
-    assert!(rt; is_turned_away(&rt, alloc, &table, longer, Mismatch::Session(3)));
-    let own = b">pazkindu 1 100000000 0\n>x = 3;\n.";
-    let again = attend(&rt, alloc, &table, own, "user ann\nx;\n");
-    let wanted = "user ann\nit = 3 : int (work 1, depth 1)\n";
-    assert!(rt; again.answers.as_slice() == wanted.as_bytes() && again.ran.restored.is_none());
-    let lines = counted(alloc, table, &[&first, &again]).expect(&rt, "memory");
-    assert_eq!(rt; lines, Some(2));
+    assert!(rt; counted(&rt, rt.alloc(), STRANGE).expect(&rt, "memory") == Some(0));
 }
