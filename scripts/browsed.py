@@ -64,6 +64,7 @@ const ratio = (one, other) => {
   const [low, high] = [bright(one), bright(other)].sort((a, b) => a - b);
   return (high + 0.05) / (low + 0.05);
 };
+const accent = getComputedStyle(document.documentElement).getPropertyValue("--accent").trim();
 const told = [];
 const tell = (one, what, colour, back, least) => told.push({
   what: `${what} of ${one.tagName.toLowerCase()} ${one.id || one.className.baseVal || one.className}`.trim(),
@@ -84,8 +85,9 @@ for (const one of document.body.querySelectorAll("*")) {
   }
   if (one.matches(".curve, .curve *")) tell(one, "line", style.stroke, behind(one.closest("figure")), 3);
   if (one.matches("mark")) tell(one, "underline", style.textDecorationColor, behind(one), 3);
-  if (one.matches("button, a, input, textarea")) {
-    tell(one, "outline", getComputedStyle(document.documentElement).getPropertyValue("--accent").trim()
+  // A page without an accent has the browser's own outlines.
+  if (accent && one.matches("button, a, input, textarea")) {
+    tell(one, "outline", accent
       .replace(/^#(..)(..)(..)$/, (_, ...parts) => `rgb(${parts.slice(0, 3).map((part) => parseInt(part, 16))})`),
       behind(one.parentElement), 3);
   }

@@ -51,14 +51,17 @@ def frame(kind, data):
 
 
 class WebClient(Client):
-    """A WebSocket, which may be seated at once."""
+    """A WebSocket, which may be seated at once. It may ask for subprotocols, and has the one that it gets."""
 
-    def __init__(self, port, user=None, wait=PATIENCE, path="/session", **how):
+    def __init__(self, port, user=None, wait=PATIENCE, path="/session", protocols=None, **how):
         super().__init__(port, None, wait, **how)
-        self.socket.sendall(upgrade(path).encode())
-        status, row = self.replies.readline(), b"-"
+        more = {"Sec_WebSocket_Protocol": protocols} if protocols else {}
+        self.socket.sendall(upgrade(path, **more).encode())
+        status, row, self.protocol = self.replies.readline(), b"-", None
         while row.strip():
             row = self.replies.readline()
+            if row.lower().startswith(b"sec-websocket-protocol: "):
+                self.protocol = row.split(b": ", 1)[1].strip().decode("latin-1")
         demand(status.startswith(b"HTTP/1.1 101 "), f"a WebSocket is answered {short(status)}")
         if user:
             self.must(f"user {user}", f"user {user}")

@@ -26,18 +26,18 @@ SECTIONS = (
     ("Trees", "Trees Grammar Lines.IsForm"),
     ("Values", "Tree Parts"),
     ("Types", "Term Class Substitution Numbering FunctionTypes Named"),
-    ("Names that refer to nothing", "Names.unknown_names Firsts"),
+    ("Names that refer to nothing", "Names.names_from Uses Firsts"),
     ("Typing", "World Typing Principal Verdicts"),
     ("Functions on scalars", "Outcomes Integers Scalars"),
     ("Functions on sequences", "Outcome.if_there Arguments Reductions Pieces Ranges Pairs Equal Extremes Scans Levels "
      "Sides Woven Places Gather Permute Write Meaning Prices"),
     ("Outcomes of expressions", "Names.Environment Out Outcome.out"),
-    ("The names of a session", "Meanings Nodes Known Refers Redefinition"),
+    ("The names of a session", "Meanings Known Referred Redefinition"),
     ("Replies", "Texts Faults Values Replies"),
     ("The step of a session", "Reading State Response Finding Step Solo"),
     ("Scripts of many users", "Script Runs Roster Said Laws"),
     ("Conversations", "Lines.WholeLines Conversation Exchange Tally Batch"),
-    ("The table and its leases", "Register Table.IsClosed Guest Serve"),
+    ("The table and its leases", "Register Renewal Table.IsClosed Guest Serve"),
     ("Sessions that are kept", "Keeping Scroll Device Files"),
 )
 
@@ -46,6 +46,7 @@ USE = re.compile(r"^\s*(?:pub use|ghost use|use) +Rattle\.([\w.\-]+?)(?:\.\{([^}
 OPENING = r"(?:(?:abbrev|unfoldable|pub|record|data) +)+"
 OPENS = re.compile(OPENING + r"(?P<name>[A-Za-z_][\w'-]*)")
 BLOCK = re.compile(r"((abbrev +)?mutual|module .*where)$")
+MODULE = re.compile(r"^module\b.*?\bwhere$", re.M | re.S)
 
 # A function, or a ghost member of a type or a trait: its crate, its file, the type or trait that it belongs to, its
 # name, its lines up to its body, and its clauses, each with its keyword and label.
@@ -123,7 +124,7 @@ class Definitions:
         self.types[crate, file] = declared(text)
         self.renamed[crate, file] = renamed(text)
         current, comment, block, about = None, [], None, []
-        for line in text.splitlines():
+        for line in MODULE.sub(lambda header: " ".join(header.group().split()), text).splitlines():
             bare = line.split("--")[0].rstrip()
             if line.lstrip().startswith("--"):
                 comment.append(line.rstrip())
@@ -321,13 +322,14 @@ class Types:
     """The public types of the code: (crate, type) to its lines without private fields, and to the names it may use."""
 
     def __init__(self):
-        self.lines, self.parts, self.homes = {}, {}, defaultdict(list)
+        self.lines, self.parts, self.homes, self.traits = {}, {}, defaultdict(list), set()
         for crate in crates():
             for path in sorted((TOP / "crates" / crate / "src").rglob("*.rt")):
                 self.read(crate, path.read_text())
 
     def read(self, crate, text):
         docs, current, is_struct = [], None, False
+        self.traits |= {(crate, name) for name in re.findall(r"^pub trait (\w+)", text, re.M)}
         for line in text.splitlines():
             if line.startswith("///"):
                 docs.append(line)
@@ -348,6 +350,8 @@ class Types:
     def find(self, crate, name):
         """The type that a name means: the crate's own, or the only one so called that a crate has."""
         homes = self.homes.get(name, [])
+        if (crate, name) in self.traits:
+            return None
         return (crate, name) if crate in homes else (homes[0], name) if len(homes) == 1 else None
 
     def within(self, place):

@@ -10,6 +10,7 @@ import tempfile
 import time
 from pathlib import Path
 
+from gate.prompted import Terminal
 from lib import PATIENCE, TOP, Skipped, demand
 
 BASE = "/usr/local/sbin:/usr/sbin:/sbin:/usr/bin:/bin"
@@ -110,6 +111,19 @@ def starts(program):
         begun = time.monotonic()
         it.must(TOLD)
         return f"{(time.monotonic() - begun) * 1000:.0f} ms"
+
+
+@check("Ctrl-C at a prompt")
+def interrupted(program):
+    """It drops the line that is being typed, and the session goes on."""
+    with Checkout(program) as it, Terminal(str(it.top / "pazkindu"), "repl") as prompt:
+        prompt.shows("\n> ")
+        prompt.type("x = 1;\n")
+        prompt.shows("x = 1 : int (work 1, depth 1)\n> ")
+        prompt.type("y = \x03x + 1;\n")
+        prompt.shows("it = 2 : int (work 3, depth 3)\n> ")
+        prompt.type("\x03:quit\n")
+        prompt.ends()
 
 
 @check("addresses are limited")

@@ -1,11 +1,18 @@
 """What a service is offered by words: limits, users of a file, an address, and a check of all that, for scripts/test."""
+import json
+import shutil
 import socket
+import subprocess
 import tempfile
+import urllib.request
 from pathlib import Path
 
 from gate.seats import keyed
-from lib import Process, Service, demand, short
-from web import WebClient
+from lib import PATIENCE, Process, Service, demand, short
+from page_lessons import lesson
+from web import WebClient, page_port
+
+LESSONS = Path(__file__).resolve().parent.parent.parent / "lessons"
 
 OFFERED = {}
 
@@ -46,6 +53,29 @@ def limits_by_words(program):
     with tempfile.TemporaryDirectory() as folder:
         refused(program, "--keep", folder, "--elements", "7", status=2, text="serve: sessions that --keep keeps",
                 users=["ann"])
+
+
+def said_to(program, words, lines, wanted):
+    """What the program answers to these lines on standard input."""
+    ran = subprocess.run([program, *words], input=lines, stdout=subprocess.PIPE, timeout=PATIENCE, check=False)
+    told = ran.stdout.decode().splitlines()
+    demand((ran.returncode, told) == (0, wanted), f"{' '.join(words)} ends with {ran.returncode} and {told}")
+
+
+@check("limits of the sessions of a batch and of a prompt")
+def limits_without_service(program):
+    """Each one holds, and `:budget` tells it; so it is with `--csv`, and in a heap."""
+    words = ["--line-work", "2000000", "--session-work=5000000000", "--elements", "7", "--transcript-lines", "5"]
+    lines = b":budget\nx = index(9);\nsum(index(1500000));\nsum(index(500000));\n1;\n2;\n"
+    wanted = ["budget: work 5000000000, elements 0 of 7, lines 0 of 5, bytes 0 of 1048576",
+              "fault elements (work 11)", "fault work (work 2000000)",
+              "it = 124999750000 : int (work 1000003, depth 22)", "it = 1 : int (work 1, depth 1)",
+              "fault transcript (work 0)"]
+    for rest in (["batch", "ann"], ["batch", "--heap", "100000000", "ann"]):
+        said_to(program, [*rest[:1], *words, *rest[1:]], b"user ann\n" + lines, ["user ann", *wanted])
+    said_to(program, ["repl", *words], lines, wanted)
+    costs = ["n,work,depth,fault", "500000,1000003,22,", "1500000,,,work"]
+    said_to(program, ["batch", "--csv=500000,1500000", "--line-work=2000000", "ann"], b"sum(index(n));\n", costs)
 
 
 @check("users of a file")
@@ -109,3 +139,35 @@ def checked(program):
         refused(program, "--check", "--keys", f"{folder}/none", status=1, text="serve: can't read keys", users=["ann"])
         refused(program, "--check", "--keep", path, status=1, text="serve: can't keep sessions in", users=["ann"])
         refused(program, "--check", status=2, text="roster: bad name A", users=["A"])
+
+
+def shown_lessons(program, folder):
+    """The lessons that a page shows."""
+    with Service(program, "--web", "0", "--lessons", folder) as service:
+        with urllib.request.urlopen(f"http://127.0.0.1:{page_port(service)}/lessons.json", timeout=PATIENCE) as answer:
+            return json.loads(answer.read())
+
+
+@check("lessons of a teacher")
+def lessons_of_folder(program):
+    """The page shows those of the folder, as it shows ours. A check runs their blocks, and reports what differs."""
+    with tempfile.TemporaryDirectory() as folder:
+        for path in LESSONS.glob("*.md"):
+            shutil.copy(path, folder)
+        names = sorted(path.name for path in LESSONS.glob("[0-9]*.md"))
+        mine = shown_lessons(program, folder)
+        demand(len(mine) == len(names), f"{len(mine)} lessons")
+        for name, shown in zip(names, mine, strict=True):
+            ours = lesson(LESSONS / name, "")
+            demand(shown["title"] == ours["title"], f"{name} has the title {shown['title']}")
+            for got, wanted in zip(shown["parts"], ours["parts"], strict=True):
+                demand(got == json.loads(json.dumps(wanted)), f"{name}: {short(str(got))} and not {short(str(wanted))}")
+        refused(program, "--check", "--web", "0", "--lessons", folder, status=0, text="", users=["ann"])
+        Path(folder, "14-wrong.md").write_text("# Wrong\n\n```\n> 1 + 1;\nit = 3 : int (work 3, depth 3)\n```\n")
+        refused(program, "--check", "--web", "0", "--lessons", folder, status=1, users=["ann"],
+                text="lessons: 14-wrong.md: 1 + 1; is answered it = 2 : int (work 3, depth 3)")
+    with tempfile.TemporaryDirectory() as folder:
+        refused(program, "--lessons", folder, status=1, text="serve: can't show the lessons in", users=["ann"])
+        refused(program, "--lessons", f"{folder}/none", status=1, text="serve: can't show the lessons in", users=["ann"])
+        Path(folder, "a.md").write_bytes(b"# \xff\n")
+        refused(program, "--lessons", folder, status=1, text="lessons: a.md", users=["ann"])

@@ -1,8 +1,13 @@
 """The page's port of the program, as scripts/test tries it."""
 import contextlib
 import io
+import json
+import os
 import random
+import re
 import socket
+import subprocess
+import tempfile
 import time
 
 from lib import ONE, PATIENCE, TOP, Process, Service, demand, loaded, names, seated, short, sockets_end
@@ -101,6 +106,63 @@ def conversation(program):
         client, _ = seated(service, "ann", PATIENCE)
         client.must("x;", "it = 3 : int (work 1, depth 1)")
         client.leave()
+
+
+# Lines that have hints, and a form in two parts. In two of them a character of two bytes is wrong.
+WRONG = ["sum 3;", "t = 5;", "if 1 = 1 then 2 else 3;", "x = \"a\\b\" + 1;", "\"é\" + 1;", "é;", "xé = 1;", "(1 + 2;",
+         "take([1, 2], 5);", "elt([1], 7);", "function g(x) = y;", "{a * a : a in 3};", "[1, true];", "sum(\\", "x y);",
+         "1 / 0;", "lenght([1]);", "let y = 1;", ":quit", "`;"]
+
+# What is asked for by clients that get no hints.
+OTHERS = [None, "pazkindu", "pazkindu.hints2", "pazkindu-hints, other"]
+
+
+@check("hints over a WebSocket")
+def hints(program):
+    """Who asks for them gets the hint of a batch in a message after a fault, and nobody else does. Hints count as no
+    answers."""
+    lines = "user ann\n" + "".join(line + "\n" for line in WRONG)
+    told = subprocess.run([program, "batch", "--hints", "ann"], input=lines.encode(), stdout=subprocess.PIPE, check=True)
+    wanted = told.stdout.split(b"\n")[1:-1]
+    with tempfile.TemporaryDirectory() as room:
+        stats = os.path.join(room, "stats")
+        words = ["--stats", stats, "--connections", "1"]
+        with shown(program, *words, users=["ann", "bob"], may_end=True) as (service, port):
+            with WebClient(port, "ann", protocols="other, pazkindu.hints") as ann:
+                same("the subprotocol", ann.protocol, "pazkindu.hints")
+                for line in WRONG:
+                    ann.must(line.encode().decode("latin-1"), wanted.pop(0).decode("latin-1"))
+                    if wanted and wanted[0].startswith(b"hint: "):
+                        hinted(line, json.loads(ann.line().encode("latin-1")), wanted.pop(0))
+                ann.must("(1 + 2;", "fault syntax (work 0)")
+                same("the second place", json.loads(ann.line())["second"], [0, 1])
+                ann.must("1 + 1;", "it = 2 : int (work 3, depth 3)")
+                ann.must("x" * 65537, "fault long (work 0)")
+                same("the place of what is too long", json.loads(ann.line())["span"], [65536, 65537])
+                ann.leave()
+            for protocols in OTHERS:
+                with WebClient(port, "bob", protocols=protocols) as bob:
+                    same(f"the subprotocol for {protocols}", bob.protocol, None)
+                    bob.must("sum 3;", "fault syntax (work 0)")
+                    bob.must("1 + 1;", "it = 2 : int (work 3, depth 3)")
+                    bob.leave()
+            with service.client("bob") as bob:
+                bob.leave()
+            same("its status", service.ended()[0], 0)
+        with open(stats, encoding="ascii") as written:
+            same("answers that are counted", json.loads(written.read())["lines"], 5 + len(WRONG) + 3 * len(OTHERS))
+    return f"{len(WRONG)} lines"
+
+
+def hinted(line, mine, wanted):
+    """The JSON of a hint says what the hint of a batch does. Bytes that are cut off of a character are `?`."""
+    start, end, sentence = re.fullmatch(rb"hint: at (\d+)\.\.(\d+): (.*)", wanted).groups()
+    try:
+        sentence = sentence.decode()
+    except UnicodeDecodeError:
+        sentence = re.sub(r"[^\0-\x7f]", "?", sentence.decode("latin-1"))
+    same(f"the hint on {line}", (mine["hint"], mine["span"]), (sentence, [int(start), int(end)]))
+    same(f"the fields of the hint on {line}", sorted(mine), ["hint", "second", "span"])
 
 
 @check("browsers that say nothing")

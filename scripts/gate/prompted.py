@@ -1,7 +1,8 @@
 """The prompt, and hints in a batch, as scripts/test tries them: over pipes, and in a terminal of its own.
 
 A transcript of README.md is a block that begins with `$ ./pazkindu repl`. Its lines are typed into a terminal, and what
-the terminal shows has to be the block.
+the terminal shows has to be the block. An account of docs/LANGUAGE.md is a block with the word `text`; a lesson has parts
+of accounts, in indented blocks that begin with `> :cost `.
 """
 import contextlib
 import fcntl
@@ -168,9 +169,44 @@ def lessons(program):
     return f"{len(said)} lessons, {sum(len(example.pairs) for example in said)} lines"
 
 
+def accounts_of_lessons():
+    """The accounts of the lessons: the page, the lines said before, what is asked for, and lines of the account."""
+    for page in filter(EXAMPLES.is_lesson, EXAMPLES.pages()):
+        said = [line for example in EXAMPLES.examples(page)[0] for line, _ in example.pairs]
+        for block in re.findall(r"(?:^    .*\n)+", (TOP / page).read_text(), re.M):
+            first, *below = [line[4:] for line in block.splitlines()]
+            if first.startswith("> :cost "):
+                yield page, said, first[2:], below
+
+
+def accounts_of_guide():
+    """The accounts of docs/LANGUAGE.md, which are whole."""
+    page = "docs/LANGUAGE.md"
+    for block in re.findall(r"^```text\n(.*?)\n```$", (TOP / page).read_text(), re.S | re.M):
+        before, asked, below = block.partition("\n> :cost ")
+        if asked:
+            expression, *below = below.split("\n")
+            yield page, [line[2:] for line in before.split("\n") if is_typed(line)], f":cost {expression}", below
+
+
+@check("accounts in the guide and in lessons")
+def accounts(program):
+    """The prompt writes their lines after the lines that the page has before them, in this order."""
+    count = 0
+    for page, said, asked, below in [*accounts_of_guide(), *accounts_of_lessons()]:
+        answered = told(program, "".join(line + "\n" for line in [*said, asked]).encode("latin-1"))
+        lines = iter(answered.decode("latin-1").splitlines())
+        for wanted in below:
+            demand(wanted in lines, f"{page}: `{asked}` does not show {short(wanted)} there")
+            count += 1
+    demand(count, "there is no account")
+    return f"{count} lines"
+
+
 @check("a prompt in a terminal")
 def in_terminal(program):
-    """The end of input ends it, between forms and within one; a form's lines have a prompt of their own."""
+    """The end of input ends it, between forms and within one; a form's lines have a prompt of their own. Two blank lines
+    end a form, and one doesn't."""
     with Terminal(program, "repl") as it:
         it.shows("\n> ")
         it.type("1 +\n")
@@ -179,6 +215,12 @@ def in_terminal(program):
         it.shows("it = 3 : int (work 3, depth 3)\n> ")
         it.type("\n")
         it.shows("\n> ")
+        it.type("5 -\n\n")
+        it.shows("\n. . ")
+        it.type("2;\n")
+        it.shows("it = 3 : int (work 3, depth 3)\n> ")
+        it.type("4\n\n\n")
+        it.shows("hint: a form ends in `;`\n> ")
         it.type("\x04")
         it.ends()
     with Terminal(program, "repl") as it:
@@ -193,7 +235,7 @@ def in_terminal(program):
 @check("a prompt at 80 columns")
 def narrow(program):
     """No line that it writes below a fault or for help is wider."""
-    asked = [":help", *(f":help {name}" for name in help_names(program)), *WRONG]
+    asked = [":help", ":help functions", *(f":help {name}" for name in help_names(program)), *WRONG]
     with Terminal(program, "repl") as it:
         it.shows("\n> ")
         for line in asked:
@@ -219,8 +261,8 @@ WRONG = ["function f(x) = x + 1;", "sum 3;", "1 / 0;", "\"abc\" + 1;", "taek([1,
 
 
 def help_names(program):
-    """The functions and signs that `:help` names."""
-    text = told(program, b":help\n").decode("latin-1")
+    """The functions and signs that `:help functions` names."""
+    text = told(program, b":help functions\n").decode("latin-1")
     return text.split("Functions and signs:")[1].split()
 
 
@@ -236,10 +278,10 @@ def piped(program):
     same("the number of replies", str(len(mine)), str(len(wanted)))
     for line, reply, right in zip(lines, mine, wanted):
         same(short(line), reply, right)
-    parted = b"x = {a * a\n : a in\n\n[1, 2, 3]};\nx[\n1];\n2 +\n3;\n"
-    same("forms over several lines", told(program, parted),
-         b"fault syntax (work 0)\nfault syntax (work 0)\nfault unknown at 0..1 (work 0)\n"
-         b"it = 5 : int (work 3, depth 3)\n")
+    parted = b"x = {a * a\n : a in\n\n\n[1, 2, 3]};\nx[\n1];\n2 +\n3;\n"
+    whole = b"user ann\nx = {a * a : a in [1, 2, 3]};\nx[1];\n2 + 3;\n"
+    wanted = ran(program, "batch", "ann", text=whole)[0].split(b"\n", 1)[1]
+    same("forms over several lines", told(program, parted), wanted)
     return f"{len(lines)} lines"
 
 
