@@ -131,7 +131,13 @@ def command(place, name):
         else:
             out.append(re.sub(r"\$\{([A-Z_]+)\}", lambda found: values[found[1]], word))
     return [f"{place.folder}{out[0]}", *(f"{place.folder}{word}" if word.startswith(SESSIONS) else word
-                                         for word in out[1:])]
+                                         for word in without_control(out[1:]))]
+
+
+def without_control(words):
+    """The words without an operator's socket, whose folder systemd makes."""
+    at = words.index("--control")
+    return words[:at] + words[at + 2:]
 
 
 def number(text):
@@ -297,28 +303,31 @@ class Transient(Managed):
                 if "KEEP=" in value:
                     value = "KEEP="
                 value = value.replace("%i", self.unit(name))
-                if key not in ("ExecStart", "ExecStartPre", "ExecStopPost", "StateDirectory", "StateDirectoryMode"):
+                if key not in ("ExecStart", "ExecStartPre", "ExecStartPost", "ExecStop", "ExecStopPost", "StateDirectory",
+                               "StateDirectoryMode"):
                     lines.append(f"--property={key}={value}")
         words = rows["ExecStart"][0].split()
         self.run("systemd-run", "--quiet", f"--unit={self.unit(name)}", *lines, f"{self.place.folder}{words[0]}",
-                 *words[1:])
+                 *without_control(words[1:]))
 
 
 class Booted(Managed):
-    """A systemd of the Debian's own, which systemd-nspawn boots there. It has this machine's network."""
+    """A systemd of the Debian's own, which systemd-nspawn boots there. It has this machine's network, unless more words
+    for systemd-nspawn say another one."""
     kind = "systemd, booted in it by systemd-nspawn"
 
-    def __init__(self, place):
+    def __init__(self, place, *more):
         super().__init__(place)
-        self.cgroups, self.boot, self.leader = [], None, None
-        self.name = f"pazkindu-check-{os.getpid()}"
+        self.cgroups, self.boot, self.leader, self.more = [], None, None, more
+        self.patience = 3 * SECONDS
+        self.name = f"pazkindu-check-{os.getpid()}-{Path(place.folder).name}"
 
     def __enter__(self):
         limits = Path(self.place.folder) / LIMITS
         limits.parent.mkdir(parents=True, exist_ok=True)
         limits.write_text(LIMITED)
         words = ["systemd-nspawn", "--quiet", "--boot", "--console=pipe", f"--machine={self.name}",
-                 f"--directory={self.place.folder}"]
+                 f"--directory={self.place.folder}", *self.more]
         apart = not Path("/run/systemd/system").is_dir()
         if apart:
             words[1:1] = ["--register=no", "--keep-unit"]
@@ -328,7 +337,7 @@ class Booted(Managed):
                                      start_new_session=True, preexec_fn=lambda: enter(self.cgroups))
         try:
             self.wait_until(self.has_leader, f"systemd-nspawn boots nothing: {self.console_text()}")
-            self.wait_until(lambda: self.state() in ("running", "degraded"), "systemd isn't up", 3 * SECONDS)
+            self.wait_until(lambda: self.state() in ("running", "degraded"), "systemd isn't up", self.patience)
             if apart:
                 self.free_cgroups()
         except BaseException:
